@@ -1,0 +1,7 @@
+pub mod Tests
+pub mod Below
+pub mod Digits
+pub mod Bytes
+pub mod Stored
+pub mod Runs
+pub mod Xor

@@ -1,0 +1,124 @@
+// Bits of a byte slice. Bit 0 is the lowest bit of the first byte (document 01, "Bits, fragments, chains").
+//
+//   byte        0                       1
+//   bit   7 6 5 4 3 2 1 0       7 6 5 4 3 2 1 0
+//   place 7 6 5 4 3 2 1 0      15 .. .. .. 9 8
+//
+// Every contract speaks of the one view of bits, the list `byteBits`. The small functions that all layers share stand
+// at the end.
+ghost use mathlib.Core.Path.{_≡_};
+ghost use mathlib.Core.Bool.{true, false, cond, _&&_};
+ghost use Prim.Native.Nat.{ℕ, _+_, _-_, _*_, _^_, _<_, _≤_};
+ghost use lib.ListN.{length, getD, set};
+ghost use lib.Seq.{slice, sets};
+ghost use Rattle.bits.specs.Bits.{byteBits, numberBits, value, zeros};
+
+// Bit b.
+pub fn bit(s: &[u8], b: usize) -> bool
+    requires { ⌜ b < length (now s) * 8 ⌝ }
+    ensures { λ r. ⌜ r ≡ getD (byteBits (now (s .entry))) b false ⌝ }
+{
+    (s[b / 8] >> (b % 8)) % 2 == 1
+}
+
+// Bit b becomes 1.
+pub fn set_bit(s: &mut [u8], b: usize)
+    requires { ⌜ b < length (now s) * 8 ⌝ }
+    ensures { λ _. ⌜ byteBits (now (s .exit)) ≡ set (byteBits (now (s .entry))) b true ⌝ }
+{
+    s[b / 8] = s[b / 8] | (1 << (b % 8));
+}
+
+// Bit b becomes 0.
+pub fn clear_bit(s: &mut [u8], b: usize)
+    requires { ⌜ b < length (now s) * 8 ⌝ }
+    ensures { λ _. ⌜ byteBits (now (s .exit)) ≡ set (byteBits (now (s .entry))) b false ⌝ }
+{
+    s[b / 8] = s[b / 8] & (255 - (1 << (b % 8)));
+}
+
+// Bit b becomes v.
+pub fn write_bit(s: &mut [u8], b: usize, v: bool)
+    requires { ⌜ b < length (now s) * 8 ⌝ }
+    ensures { λ _. ⌜ byteBits (now (s .exit)) ≡ set (byteBits (now (s .entry))) b v ⌝ }
+{
+    if v {
+        set_bit(s, b);
+    } else {
+        clear_bit(s, b);
+    }
+}
+
+// The number that the n bits from `at` on spell, lowest first.
+pub fn number(s: &[u8], at: usize, n: usize) -> u32
+    requires { ⌜ (n ≤ 31) × (at + n ≤ length (now s) * 8) × (at + n < 2 ^ 64) ⌝ }
+    ensures { λ r. ⌜ r ≡ value (slice at (at + n) (byteBits (now (s .entry)))) ⌝ }
+{
+    let mut v: u32 = 0;
+    let mut i = n;
+    while 0 < i {
+        i -= 1;
+        v = v * 2 + one(bit(s, at + i));
+    }
+    v
+}
+
+// The n lowest bits of v, written from bit `at` on, lowest first.
+pub fn write_number(s: &mut [u8], at: usize, n: usize, v: u32)
+    requires { ⌜ (at + n ≤ length (now s) * 8) × (at + n < 2 ^ 64) ⌝ }
+    ensures { λ _. ⌜ byteBits (now (s .exit)) ≡ sets (byteBits (now (s .entry))) at (numberBits n v) ⌝ }
+{
+    let mut w = v;
+    let mut i = 0;
+    while i < n {
+        write_bit(s, at + i, w % 2 == 1);
+        w = w / 2;
+        i += 1;
+    }
+}
+
+// How many 0 bits stand from `from` on before the first 1, or before `end` where there is none.
+pub fn zero_run(s: &[u8], from: usize, end: usize) -> usize
+    requires { ⌜ (from ≤ end) × (end ≤ length (now s) * 8) ⌝ }
+    ensures { λ r. ⌜ (r ≡ zeros (slice from end (byteBits (now (s .entry))))) × (from + r ≤ end) ⌝ }
+{
+    let mut j = from;
+    while j < end {
+        if bit(s, j) {
+            return j - from;
+        }
+        j += 1;
+    }
+    j - from
+}
+
+// Both hold. A choice that is a call keeps the loops above free of joining branches.
+pub fn both(a: bool, b: bool) -> bool
+    ensures { λ r. ⌜ r ≡ a && b ⌝ }
+{
+    if a { b } else { false }
+}
+
+// 1 for true.
+pub fn one(b: bool) -> u32
+    ensures { λ r. ⌜ (r ≡ cond b 1 0) × (r < 2) ⌝ }
+{
+    if b { 1 } else { 0 }
+}
+
+// A byte as a number to count with.
+pub fn wide(x: u8) -> usize
+    ensures { λ r. ⌜ (r ≡ x) × (r < 256) ⌝ }
+{
+    x as usize
+}
+
+// The difference, or 0 where it would be negative.
+pub fn minus(a: usize, b: usize) -> usize
+    ensures { λ r. ⌜ r ≡ a - b ⌝ }
+{
+    if a < b {
+        return 0;
+    }
+    a - b
+}

@@ -1,0 +1,5 @@
+pub mod Totals
+pub mod Sums
+pub mod Agree
+pub mod Changes
+pub mod Vectors

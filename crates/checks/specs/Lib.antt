@@ -1,0 +1,5 @@
+pub mod Words
+pub mod Columns
+pub mod Cross
+pub mod Maps
+pub mod Laws

@@ -1,0 +1,25 @@
+-- The laws, each from the file that proves it.
+use Rattle.geometry.proofs.Rules.{test-is-rules}
+use Rattle.geometry.proofs.Numbers.{accepted, floppy, divisor}
+use Rattle.geometry.proofs.Bits.{block-of-disc, disc-of-block, zone-of-disc, on-the-map}
+use Rattle.geometry.proofs.Starts.{start-in-range, object-690}
+use Rattle.geometry.proofs.geometry_laws.Statement.{statement}
+use Rattle.geometry.proofs.geometry_laws.Tie as tie
+
+returns : tie.Need-returns
+returns c =
+    record {
+      test-is-rules = test-is-rules;
+      accepted = accepted;
+      block-of-disc = block-of-disc;
+      disc-of-block = disc-of-block;
+      zone-of-disc = zone-of-disc;
+      on-the-map = on-the-map;
+      start-in-range = start-in-range;
+      floppy = floppy;
+      divisor = divisor;
+      object-690 = object-690;
+    }
+
+pub geometry-laws-spec : {M : Type 1} → statement M
+geometry-laws-spec = tie.close (tie.spec returns)

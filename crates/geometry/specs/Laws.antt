@@ -1,0 +1,31 @@
+-- What holds of records, geometries and places. Assumes nothing.
+use mathlib.Core.Path.{_≡_}
+use mathlib.Core.Bool.{Bool, true, false}
+use mathlib.Core.List.{List, [], _∷_}
+use Prim.Native.Nat.{ℕ, _+_, _*_, _<_, _≤_}
+use Rattle.geometry.specs.declared.Geometry.{Geometry}
+use Rattle.geometry.specs.declared.Start.{Start}
+use Rattle.geometry.specs.Record.{geometryIn, geometryFrom}
+use Rattle.geometry.specs.Ranges.{RecordRules, recordFits}
+use Rattle.geometry.specs.Accepted.{AcceptedGeometry}
+use Rattle.geometry.specs.Places.{firstBit, endBit, discBit, blockBit, zoneOf, discBits, startZone}
+use Rattle.geometry.specs.Answers.{startOf, startNumbers}
+
+pub record GeometryLaws : Type 0 where
+  -- the test accepts a record exactly when it keeps the rules
+  pub test-is-rules : (r : List ℕ) → (recordFits r ≡ true → RecordRules r) × (RecordRules r → recordFits r ≡ true)
+  -- what an accepted record gives the layers above
+  pub accepted : (r : List ℕ) → RecordRules r → AcceptedGeometry (geometryIn r)
+  -- the two kinds of bit number: the conversions undo each other on a zone's bits, and the zone is found again
+  pub block-of-disc : (g : Geometry) → AcceptedGeometry g → (z b : ℕ) → firstBit z ≤ b → b < endBit g → blockBit g z (discBit g z b) ≡ b
+  pub disc-of-block : (g : Geometry) → AcceptedGeometry g → (d : ℕ) → discBit g (zoneOf g d) (blockBit g (zoneOf g d) d) ≡ d
+  pub zone-of-disc : (g : Geometry) → AcceptedGeometry g → (z b : ℕ) → firstBit z ≤ b → b < endBit g → zoneOf g (discBit g z b) ≡ z
+  pub on-the-map : (g : Geometry) → AcceptedGeometry g → (z b : ℕ) → z < g .zones → firstBit z ≤ b → b < endBit g → discBit g z b < discBits g
+  -- an id's start zone is a zone
+  pub start-in-range : (g : Geometry) (id : ℕ) → 1 ≤ id → id < g .ids * g .zones → startZone g id < g .zones
+  -- document 01's last bench line: Z 6880, m 16, P 430, 819,200 bytes
+  pub floppy : let g = geometryFrom 10 15 7 1 1312 819200 in (g .bits ≡ 6880) × (g .shortest ≡ 16) × (g .ids ≡ 430) × (g .end ≡ 6400)
+  -- P's divisor is not rounded to clusters: idlen 13, 1,024-byte sectors, 128 bytes a bit, so m 16 and P = Z div 14
+  pub divisor : let g = geometryFrom 10 13 7 1 32 819200 in (g .bits ≡ 8160) × (g .shortest ≡ 16) × (g .ids ≡ 582)
+  -- "Id 690 with 168 ids per zone: start zone 4 (document 000)"
+  pub object-690 : let g = geometryFrom 8 11 10 8 32 12582912 in (g .ids ≡ 168) × (startNumbers (startOf g 690) ≡ (0, 0, 4))

@@ -1,0 +1,47 @@
+-- The chain followed, one fragment at a time: the two ways on, and how many bits the fragments have.
+use mathlib.Core.Path.{_≡_, refl, sym, ap, ap₂, _∙_, subst, subst⁻¹}
+use mathlib.Core.Bool.{Bool, true, false, cond, not, _&&_, false≢true}
+use mathlib.Core.List.{List, [], _∷_, _++_}
+use mathlib.Core.Option.{Option, none, some}
+use Prim.Native.Nat.{ℕ, zero, suc, _+_, _-_, _*_, _^_, _<_, _≤_}
+use native.Mathlib.Nat.{zero-sub}
+use native.Mathlib.Omega.{arith}
+use lib.Dec.{eqb, ltb, leb}
+use borrow.Author.Tests.{eqb-true, eqb-false, eq-eqb, ne-eqb, lt-ltb, le-ltb, ltb-true, ltb-false}
+use Rattle.bits.proofs.Tests.{by-test, both}
+use Rattle.model.specs.Fragments.{Fragment, fragmentBits, Formed}
+use Rattle.model.specs.Chain.{Pair, Holder, free, owned, Entry, entry, onward, before, follow, isFree, noneTouch}
+use Rattle.model.specs.Pieces.{Piece, ownedOf}
+use Rattle.model.specs.Drawing.{firstFree, gap, drawnFragments, gapEntry, drawnEntries}
+use Rattle.model.proofs.Options.{none-some, some-some}
+
+abbrev pub Long : List Fragment → Type 0
+Long [] = Unit {0}
+Long (f ∷ fs) = (0 < f .len) × Long fs
+
+abbrev pub total : List Fragment → ℕ
+total [] = 0
+total (f ∷ fs) = f .len + total fs
+
+pub before-inv : (e : Entry) (r : Option (List Entry)) (es : List Entry) → before e r ≡ some es → (gs : List Entry) × (r ≡ some gs) × (es ≡ e ∷ gs)
+before-inv e none es h = absurd (none-some h)
+before-inv e (some gs) es h = (gs, refl, sym (some-some h))
+
+-- the two ways on
+pub data Followed (at next : ℕ) (f : Fragment) (fs : List Fragment) : List Entry → Type 0 where
+  was-free : (gs : List Entry) → at ≡ next → follow (at + f .len) (onward at (f .id)) fs ≡ some gs → Followed at next f fs (entry at f free ∷ gs)
+  was-owned : (gs : List Entry) → (at ≡ next → ⊥) → follow (at + f .len) next fs ≡ some gs → Followed at next f fs (entry at f (owned (f .id)) ∷ gs)
+
+pub followed : (at next : ℕ) (f : Fragment) (fs : List Fragment) (es : List Entry) → follow at next (f ∷ fs) ≡ some es → Followed at next f fs es
+followed at next f fs es e =
+    by-test (eqb at next)
+    (λ h. let i = before-inv (entry at f free) (follow (at + f .len) (onward at (f .id)) fs) es (simp h at e) in
+    subst⁻¹ (λ (r : List Entry). Followed at next f fs r) (i .2) (was-free (i .0) (eqb-true at next h) (i .1)))
+    (λ h. let i = before-inv (entry at f (owned (f .id))) (follow (at + f .len) next fs) es (simp h at e) in
+    subst⁻¹ (λ (r : List Entry). Followed at next f fs r) (i .2) (was-owned (i .0) (eqb-false at next h) (i .1)))
+
+pub none-left : (at next : ℕ) (es : List Entry) → follow at next [] ≡ some es → (next ≡ 0) × (es ≡ [])
+none-left at next es e =
+    by-test (eqb next 0)
+    (λ h. (eqb-true next 0 h, sym (some-some (simp h at e))))
+    (λ h. absurd (none-some (simp h at e)))

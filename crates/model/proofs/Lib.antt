@@ -1,0 +1,11 @@
+pub mod Options
+pub mod FragmentsRead
+pub mod Followed
+pub mod ChainDrawn
+pub mod ZoneDrawn
+pub mod Landing
+pub mod Holders
+pub mod Owners
+pub mod Zones
+pub mod ByPlace
+pub mod Judging

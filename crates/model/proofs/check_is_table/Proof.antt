@@ -1,0 +1,19 @@
+-- The laws of `Judging`.
+use Rattle.model.proofs.Judging.{answer-is-judged, judged-is-answer, accepted-keeps-rules, rules-accepted}
+use Rattle.model.proofs.check_is_table.Statement.{statement}
+use Rattle.model.proofs.check_is_table.Tie as tie
+use Rattle.model.proofs.check_is_table.Reads as reads
+use Rattle.model.proofs.check_is_table.Lts as lts
+
+-- src/lib.rt:8:1
+returns : tie.Need-returns
+returns c =
+    record {
+      answer-is-judged = answer-is-judged;
+      judged-is-answer = judged-is-answer;
+      accepted-keeps-rules = accepted-keeps-rules;
+      rules-accepted = rules-accepted;
+    }
+
+pub check-is-table-spec : {M : Type 1} → statement M
+check-is-table-spec = tie.close (tie.spec returns)

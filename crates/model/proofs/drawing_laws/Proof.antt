@@ -1,0 +1,21 @@
+-- The laws of `ZoneDrawn`, with the id's length as it stands.
+use mathlib.Core.Path.{_≡_, subst}
+use mathlib.Core.Option.{some}
+use Prim.Native.Nat.{ℕ, suc, _+_, _-_, _^_, _<_, _≤_}
+use native.Mathlib.Omega.{arith}
+use Rattle.model.proofs.ZoneDrawn.{read-drawn, owned-drawn, drawn-read}
+use Rattle.model.proofs.drawing_laws.Statement.{statement}
+use Rattle.model.proofs.drawing_laws.Tie as tie
+use Rattle.model.proofs.drawing_laws.Reads as reads
+use Rattle.model.proofs.drawing_laws.Lts as lts
+
+-- src/lib.rt:14:1
+returns : tie.Need-returns
+returns c = record {
+  read-drawn = λ idlen at end ps h. read-drawn idlen h at end ps;
+  pieces-back = owned-drawn;
+  drawn-read = λ idlen at link bits es h. drawn-read idlen h at link bits es;
+}
+
+pub drawing-laws-spec : {M : Type 1} → statement M
+drawing-laws-spec = tie.close (tie.spec returns)
