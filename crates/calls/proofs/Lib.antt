@@ -1,0 +1,15 @@
+pub mod Kept
+pub mod Entries
+pub mod ByPlace
+pub mod PutIn
+pub mod ObjectOrder
+pub mod Undo
+pub mod Gaps
+pub mod HolesLeft
+pub mod Invariant
+pub mod ClaimFits
+pub mod RunsKept
+pub mod ReadsAfter
+pub mod Sharing
+pub mod Thirteen
+pub mod Fourteen

@@ -1,0 +1,132 @@
+-- Whole runs: every accepted call may be undone and keeps the invariant, so a run does; and its cross checks are those of
+-- its edits.
+use mathlib.Core.Path.{_≡_, refl, ap, _∙_, subst}
+use mathlib.Core.Bool.{Bool, true, false, not, _&&_, false≢true}
+use mathlib.Core.List.{List, [], _∷_}
+use mathlib.Core.Option.{Option, none, some}
+use Prim.Native.Nat.{ℕ, zero, suc, _+_, _-_, _*_, _%_, _<_}
+use native.Mathlib.Omega.{arith}
+use lib.Dec.{eqb, ltb, leb}
+use lib.ListN.{length}
+use borrow.Author.Tests.{lt-ltb, ltb-true}
+use Rattle.bits.proofs.Tests.{by-test, both}
+use Rattle.geometry.specs.declared.Geometry.{Geometry}
+use Rattle.geometry.specs.Accepted.{AcceptedGeometry}
+use Rattle.geometry.specs.Places.{zoneOf}
+use Rattle.model.specs.Chain.{Pair}
+use Rattle.model.specs.Pieces.{Piece, piecesOf, objectPairs}
+use Rattle.model.proofs.Options.{none-some, some-some}
+use Rattle.calls.specs.Edits.{Disc, own, give, crossed, Edit, takes, gives, pairsIn, edit}
+use Rattle.calls.specs.Holes.{holesFrom, allApart}
+use Rattle.calls.specs.Judge.{Call, release, place, claim, Verdict, refused, accepted, unless, isEmpty, editable, pairsFrom, pairsFit, listFits, need, firstHole, taken, lowest, claimIn, judge, obey}
+use Rattle.calls.specs.Runs.{after, run, kept, edits, Undone, crossRun}
+use Rattle.calls.proofs.Kept.{all-put-in}
+use Rattle.calls.proofs.Undo.{Allowed, Trace, undone}
+use Rattle.calls.proofs.Invariant.{FitPieces, fit-asc, fit-without, zoned-on-disc, list-order, fit-give}
+use Rattle.calls.proofs.ClaimFits.{fit-claim}
+
+-- accepted: no test refused
+pub unless-inv : (b : Bool) (n : ℕ) (v : Verdict) (e : Edit) → unless b n v ≡ accepted e → (b ≡ true) × (v ≡ accepted e)
+unless-inv true n v e h = (refl, h)
+unless-inv false n v e h = let z : _≡_ {A = ℕ} 0 1 = cc in absurd (omega arith)
+
+pub empty : {A : Type 0} (l : List A) → isEmpty l ≡ true → l ≡ []
+empty [] h = refl
+empty (x ∷ xs) h = absurd (false≢true h)
+
+pub same-edit : {a b : Edit} → accepted a ≡ accepted b → a ≡ b
+same-edit h = cc
+
+-- the lowest unused id
+pub lowest-absent : (l : List Piece) (n id i : ℕ) → lowest l n id ≡ some i → piecesOf i l ≡ []
+lowest-absent l zero id i h = absurd (none-some h)
+lowest-absent l (suc n) id i h =
+    by-test (isEmpty (piecesOf id l))
+    (λ t. let k : id ≡ i = some-some (simp t at h) in subst (λ (j : ℕ). piecesOf j l ≡ []) k (empty (piecesOf id l) t))
+    (λ t. lowest-absent l n (suc id) i (simp t at h))
+
+pub lowest-lt : (l : List Piece) (n id i : ℕ) → lowest l n id ≡ some i → (i < id + n) × (0 < n)
+lowest-lt l zero id i h = absurd (none-some h)
+lowest-lt l (suc n) id i h =
+    by-test (isEmpty (piecesOf id l))
+    (λ t. let k : id ≡ i = some-some (simp t at h) in (omega arith, omega arith))
+    (λ t. let k = lowest-lt l n (suc id) i (simp t at h) in (omega arith, omega arith))
+
+-- an edit that may be undone and keeps the invariant
+abbrev pub EditFits : Geometry → List Piece → Edit → Type 0
+EditFits g l e = Allowed g l e × ((cross : List ℕ) → FitPieces g ((edit g e (record { pieces = l; cross = cross })) .pieces))
+
+-- what an accepted call edits
+pub allowed : (g : Geometry) (l : List Piece) (c : Call) (e : Edit) → AcceptedGeometry g → FitPieces g l → judge g l c ≡ accepted e → EditFits g l e
+allowed g l (release id room) e f k h =
+    let qs = objectPairs g id l in
+    let a = unless-inv (editable g id) 8 (unless (not (isEmpty (piecesOf id l))) 10 (unless (leb (2 * length qs) room) 17 (accepted (takes id qs)))) e h in
+    let b = unless-inv (not (isEmpty (piecesOf id l))) 10 (unless (leb (2 * length qs) room) 17 (accepted (takes id qs))) e (a .1) in
+    let c = unless-inv (leb (2 * length qs) room) 17 (accepted (takes id qs)) e (b .1) in
+    subst (EditFits g l) (same-edit {a = takes id qs} (c .1)) (refl, λ x. fit-without g id l k)
+allowed g l (place id list) e f k h =
+    let a = unless-inv (editable g id) _ _ e h in
+    let b = unless-inv (isEmpty (piecesOf id l)) _ _ e (a .1) in
+    let c = unless-inv (listFits g id list) _ _ e (b .1) in
+    let d = unless-inv (allApart g 0 (g .zones) (give id (pairsFrom list) l)) _ _ e (c .1) in
+    let ok : pairsFit g id 0 (pairsFrom list) ≡ true = (both (ltb 0 (length list) && eqb (length list % 2) 0) (pairsFit g id 0 (pairsFrom list)) (c .0)) .1 in
+    let fits = fit-give g id (pairsFrom list) l f k ((both (leb 3 id) (ltb id (g .ids * g .zones)) (a .0)) .1) ok (d .0) in
+    subst (EditFits g l) (same-edit (d .1))
+    ((empty (piecesOf id l) (b .0), list-order g id 0 (pairsFrom list) f ok, fit-asc g (give id (pairsFrom list) l) f fits), λ x. fits)
+allowed g l (claim size) e f k h =
+    let a = unless-inv (ltb 0 size) _ _ e h in
+    go (lowest l (g .ids * g .zones - 3) 3) refl (firstHole (need g size) (holesFrom g 0 (g .zones) l)) refl (a .1)
+  where
+    go : (o : Option ℕ) → lowest l (g .ids * g .zones - 3) 3 ≡ o → (p : Option Pair) → firstHole (need g size) (holesFrom g 0 (g .zones) l) ≡ p → claimIn o p (g .shortest) (need g size) ≡ accepted e → EditFits g l e
+    go none i p j h = let z : _≡_ {A = ℕ} 0 1 = cc in absurd (omega arith)
+    go (some id) i none j h = let z : _≡_ {A = ℕ} 0 1 = cc in absurd (omega arith)
+    go (some id) i (some q) j h =
+        let fits = fit-claim g id (need g size) l q f k (lt-ltb id (g .ids * g .zones) (omega (arith, lowest-lt l (g .ids * g .zones - 3) 3 id i))) (omega arith) j in
+        let t = own id (taken (g .shortest) (need g size) q) in
+        let zone = ltb-true (zoneOf g (q .start)) (g .zones) (all-put-in (λ p. ltb (zoneOf g (p .at .start)) (g .zones)) t l (fits .zoned)) in
+        subst (EditFits g l) (same-edit h)
+        ((lowest-absent l (g .ids * g .zones - 3) 3 id i, (zoned-on-disc g (q .start) f zone, omega arith, tt), fit-asc g _ f fits), λ x. fits)
+
+-- a run is a trace of its edits
+pub traced : (g : Geometry) (s : Disc) (cs : List Call) → AcceptedGeometry g → FitPieces g (s .pieces) → Trace g s (edits g s cs) (run g s cs)
+traced g s [] f k = refl
+traced g s (c ∷ cs) f k = go (judge g (s .pieces) c) refl (λ r h. traced g r cs f h)
+  where
+    go : (v : Verdict) → judge g (s .pieces) c ≡ v → ((r : Disc) → FitPieces g (r .pieces) → Trace g r (edits g r cs) (run g r cs))
+        → Trace g s (kept v (edits g (obey g v s) cs)) (run g (obey g v s) cs)
+    go (refused n) h ih = ih s k
+    go (accepted e) h ih = let a = allowed g (s .pieces) c e f k h in (a .0, ih (edit g e s) (a .1 (s .cross)))
+
+-- a run that is undone last first ends where it began
+pub run-undone : (g : Geometry) (s : Disc) (cs : List Call) → AcceptedGeometry g → FitPieces g (s .pieces) → Undone (edits g s cs) → run g s cs ≡ s
+run-undone g s cs f k u = undone g s (run g s cs) u (fit-asc g (s .pieces) f k) (traced g s cs f k)
+
+-- a run keeps the invariant
+pub run-fit : (g : Geometry) (s : Disc) (cs : List Call) → AcceptedGeometry g → FitPieces g (s .pieces) → FitPieces g ((run g s cs) .pieces)
+run-fit g s [] f k = k
+run-fit g s (c ∷ cs) f k = go (judge g (s .pieces) c) refl (λ r h. run-fit g r cs f h)
+  where
+    go : (v : Verdict) → judge g (s .pieces) c ≡ v → ((r : Disc) → FitPieces g (r .pieces) → FitPieces g ((run g r cs) .pieces)) → FitPieces g ((run g (obey g v s) cs) .pieces)
+    go (refused n) h ih = ih s k
+    go (accepted e) h ih = let a = allowed g (s .pieces) c e f k h in ih (edit g e s) (a .1 (s .cross))
+
+-- the cross checks of a run
+pub cross-edit : (g : Geometry) (e : Edit) (s : Disc) → (edit g e s) .cross ≡ crossed g (pairsIn e) (s .cross)
+cross-edit g (takes id qs) s = refl
+cross-edit g (gives id qs) s = refl
+
+pub run-cross : (g : Geometry) (s : Disc) (cs : List Call) → (run g s cs) .cross ≡ crossRun g (edits g s cs) (s .cross)
+run-cross g s [] = refl
+run-cross g s (c ∷ cs) = go (judge g (s .pieces) c) (λ r. run-cross g r cs)
+  where
+    go : (v : Verdict) → ((r : Disc) → (run g r cs) .cross ≡ crossRun g (edits g r cs) (r .cross)) → (run g (obey g v s) cs) .cross ≡ crossRun g (kept v (edits g (obey g v s) cs)) (s .cross)
+    go (refused n) ih = ih s
+    go (accepted e) ih = ih (edit g e s) ∙ ap (crossRun g (edits g (edit g e s) cs)) (cross-edit g e s)
+
+-- where the pieces are as they were, all is, but for the cross checks
+pub run-same : (g : Geometry) (s : Disc) (cs : List Call) → (run g s cs) .pieces ≡ s .pieces → run g s cs ≡ record { pieces = s .pieces; cross = crossRun g (edits g s cs) (s .cross) }
+run-same g s cs h = λ i. record { pieces = h i; cross = run-cross g s cs i }
+
+-- a call keeps the invariant
+pub fit-step : (g : Geometry) (s : Disc) (c : Call) → AcceptedGeometry g → FitPieces g (s .pieces) → FitPieces g ((after g s c) .pieces)
+fit-step g s c f k = run-fit g s (c ∷ []) f k

@@ -1,0 +1,5 @@
+pub mod Order
+pub mod Edits
+pub mod Holes
+pub mod Judge
+pub mod Runs

@@ -1,0 +1,5 @@
+pub mod Sums
+pub mod Zones
+pub mod Answers
+pub mod Accepts
+pub mod ZonesKept

@@ -1,0 +1,28 @@
+-- What the check of a map answers, and the paper's numbers of each answer. Assumes nothing.
+use mathlib.Core.List.{List}
+use mathlib.Core.Option.{Option, none, some}
+use Prim.Native.Nat.{ℕ}
+use Rattle.geometry.specs.declared.Geometry.{Geometry}
+use Rattle.geometry.specs.Record.{geometryOf}
+use Rattle.geometry.specs.Answers.{refusal}
+use Rattle.model.specs.Verdict.{MapRead, refused, entries, mapRead}
+use Rattle.map.specs.declared.Checked.{Checked}
+use Rattle.map.specs.declared.Checked.the-variants.{Accepted, Refused}
+use Rattle.map.specs.declared.FirstBad.{FirstBad}
+use Rattle.map.specs.declared.FirstBad.the-variants as bad
+
+abbrev pub answer : Geometry → MapRead → Checked
+answer g (refused n z) = Refused (refusal n z)
+answer g (entries ess) = Accepted g
+
+abbrev pub checked : List ℕ → Checked
+checked m = answer (geometryOf m) (mapRead m)
+
+-- the paper's numbers: refusal (0: accepted) and zone told
+abbrev pub checkNumbers : Checked → ℕ × ℕ
+checkNumbers (Accepted g) = (0, 0)
+checkNumbers (Refused r) = (r .number, r .zone)
+
+abbrev pub firstBad : Option ℕ → FirstBad
+firstBad none = bad.None
+firstBad (some z) = bad.Zone z

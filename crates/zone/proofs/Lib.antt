@@ -1,0 +1,5 @@
+pub mod AllocBits
+pub mod JudgeWalk
+pub mod ReadParts
+pub mod ListWalk
+pub mod Few

@@ -1,0 +1,28 @@
+-- The fragments of a zone as numbers: owner (0 for a free one), disc bit, length. Assumes nothing.
+use mathlib.Core.Path.{_≡_}
+use mathlib.Core.List.{List, [], _∷_}
+use Prim.Native.Nat.{ℕ}
+use Rattle.geometry.specs.declared.Geometry.{Geometry}
+use Rattle.geometry.specs.Places.{discBit}
+use Rattle.model.specs.Chain.{Holder, free, owned, Entry}
+use Rattle.model.specs.Verdict.{ZoneRead, bad, good, zoneRead}
+
+-- the entries of a zone that was read
+abbrev pub entriesOf : ZoneRead → List Entry
+entriesOf (bad n) = []
+entriesOf (good es) = es
+
+abbrev pub entriesIn : Geometry → ℕ → List ℕ → List Entry
+entriesIn g z block = entriesOf (zoneRead g z block)
+
+-- the zone keeps the rules
+abbrev pub IsRead : Geometry → ℕ → List ℕ → Type 0
+IsRead g z block = zoneRead g z block ≡ good (entriesIn g z block)
+
+abbrev pub holderNumber : Holder → ℕ
+holderNumber free = 0
+holderNumber (owned id) = id
+
+abbrev pub lines : Geometry → ℕ → List Entry → List ℕ
+lines g z [] = []
+lines g z (e ∷ es) = holderNumber (e .holder) ∷ discBit g z (e .at .start) ∷ e .at .len ∷ lines g z es

@@ -1,0 +1,177 @@
+// The zone walker (document 01, "Bits, fragments, chains"). It receives a zone's block, the part of the map from z*S to
+// (z+1)*S, and passes its fragments once, from the first allocation bit to the zone's end. Its numbers are block bits;
+// a disc bit comes of them by `Geometry::disc_bit` alone.
+use bits::both;
+use bits::wide;
+use fragment::Found;
+use fragment::next_after;
+use geometry::BlockBit;
+use geometry::Geometry;
+ghost use mathlib.Core.Path.{_≡_};
+ghost use mathlib.Core.List.{[], _∷_, _++_};
+ghost use Prim.Native.Nat.{ℕ, _+_, _-_, _*_, _^_, _<_, _≤_};
+ghost use lib.ListN.{length, take, drop};
+ghost use Rattle.geometry.specs.Accepted.{AcceptedGeometry};
+ghost use Rattle.geometry.specs.Places.{firstBit, endBit};
+ghost use Rattle.model.specs.Chain.{onward};
+ghost use Rattle.model.specs.Blocks.{freeLink, linkIn};
+ghost use Rattle.model.specs.Verdict.{zoneRead, holderFits};
+ghost use Rattle.zone.specs.Walk.{holderOf, endHolds, firstHolds, entryHolds, verdictOf};
+ghost use Rattle.zone.specs.Lines.{entriesIn, IsRead, lines, holderNumber};
+
+// A zone that keeps the rules, or the number that it is refused with.
+pub enum ZoneVerdict {
+    Kept,
+    Broken(u32),
+}
+
+// Judges zone z: 6, 5, 7, in one pass. A broken fragment ends the walk, since 6 comes first; the chain and the owners are
+// told at the end. A link that lands on no fragment's start is one still open there.
+pub fn judge(block: &[u8], z: usize, g: Geometry) -> ZoneVerdict
+    requires { ⌜ AcceptedGeometry g × (z < g .zones) × (length (now block) ≡ g .sector) ⌝ }
+    ensures { λ r. ⌜ r ≡ verdictOf (zoneRead g z (now (block .entry))) ⌝ }
+{
+    let start = g.zone_first(z).0;
+    let end = g.zone_end().0;
+    let link = free_link(block);
+    let mut at = start;
+    let mut next = first_free(block);
+    let mut owners = true;
+    while at < end {
+        match fragment::fragment_at(block, at, end, g.idlen, g.cluster) {
+            Found::Whole { id, len } => {
+                let n = id as usize;
+                owners = both(
+                    owners,
+                    entry_holds(g, z, at == start, at == next, n, at + len),
+                );
+                next = next_after(at, next, n);
+                at += len;
+            }
+            Found::Broken => {
+                return ZoneVerdict::Broken(6);
+            }
+        }
+    }
+    if link < 32768 {
+        return ZoneVerdict::Broken(5);
+    }
+    if next != 0 {
+        return ZoneVerdict::Broken(5);
+    }
+    if owners {
+        return ZoneVerdict::Kept;
+    }
+    ZoneVerdict::Broken(7)
+}
+
+// FreeLink with its top bit.
+fn free_link(block: &[u8]) -> usize
+    requires { ⌜ 4 ≤ length (now block) ⌝ }
+    ensures { λ r. ⌜ (r ≡ freeLink (now (block .entry))) × (r < 65536) ⌝ }
+{
+    wide(block[1]) + 256 * wide(block[2])
+}
+
+// Where the first free fragment starts, or 0 where there is none. FreeLink counts from block bit 8.
+pub fn first_free(block: &[u8]) -> usize
+    requires { ⌜ 4 ≤ length (now block) ⌝ }
+    ensures { λ r. ⌜ (r ≡ onward 8 (linkIn (now (block .entry)))) × (r < 32776) ⌝ }
+{
+    let link = bits::minus(free_link(block), 32768);
+    fragment::link_from(8, link)
+}
+
+// The id rule: an owner's number lies from 1 to P*nzones - 1.
+fn id_holds(g: Geometry, free: bool, id: usize) -> bool
+    requires { ⌜ AcceptedGeometry g ⌝ }
+    ensures { λ r. ⌜ r ≡ holderFits g (holderOf free id) ⌝ }
+{
+    if free {
+        return true;
+    }
+    both(1 <= id, id < g.ids * g.zones)
+}
+
+// The disc-end rule for a fragment that ends at block bit `to`: object 1 owns what ends past the disc.
+fn end_holds(g: Geometry, z: usize, to: usize, free: bool, id: usize) -> bool
+    requires { ⌜ AcceptedGeometry g × (z < g .zones) × (firstBit z ≤ to) × (to ≤ endBit g) ⌝ }
+    ensures { λ r. ⌜ r ≡ endHolds g z to (holderOf free id) ⌝ }
+{
+    let inside = g.disc_bit(z, BlockBit(to)).0 <= g.end;
+    if free {
+        return inside;
+    }
+    if id == 1 {
+        return true;
+    }
+    inside
+}
+
+// The object 2 rule: the first fragment of the middle zone is owned by 2.
+fn first_holds(g: Geometry, z: usize, first: bool, free: bool, id: usize) -> bool
+    ensures { λ r. ⌜ r ≡ firstHolds g z first (holderOf free id) ⌝ }
+{
+    if both(first, z == g.zones / 2) {
+        if free {
+            return false;
+        }
+        return id == 2;
+    }
+    true
+}
+
+// The three owner rules of one fragment.
+fn entry_holds(g: Geometry, z: usize, first: bool, free: bool, id: usize, to: usize) -> bool
+    requires { ⌜ AcceptedGeometry g × (z < g .zones) × (firstBit z ≤ to) × (to ≤ endBit g) ⌝ }
+    ensures { λ r. ⌜ r ≡ entryHolds g z first to (holderOf free id) ⌝ }
+{
+    both(
+        both(id_holds(g, free, id), end_holds(g, z, to, free, id)),
+        first_holds(g, z, first, free, id),
+    )
+}
+
+// The fragments of a zone that keeps the rules, ascending: owner (0 for a free one), disc bit, length. Answers how many.
+pub fn list_zone(block: &[u8], z: usize, g: Geometry, out: &mut [u32]) -> usize
+    requires { ⌜ AcceptedGeometry g × (z < g .zones) × (length (now block) ≡ g .sector) × IsRead g z (now block) × (3 * length (entriesIn g z (now block)) ≤ length (now out)) ⌝ }
+    ensures count { λ r. ⌜ r ≡ length (entriesIn g z (now (block .entry))) ⌝ }
+    ensures list { λ r. ⌜ now (out .exit) ≡ lines g z (entriesIn g z (now (block .entry))) ++ drop (3 * r) (now (out .entry)) ⌝ }
+{
+    let end = g.zone_end().0;
+    let mut at = g.zone_first(z).0;
+    let mut next = first_free(block);
+    let mut n = 0;
+    while at < end {
+        match fragment::fragment_at(block, at, end, g.idlen, g.cluster) {
+            Found::Whole { id, len } => {
+                let d = g.disc_bit(z, BlockBit(at)).0;
+                put_three(out, 3 * n, holder(at == next, id), d as u32, len as u32);
+                next = next_after(at, next, id as usize);
+                at += len;
+                n += 1;
+            }
+            Found::Broken => {
+                return n;
+            }
+        }
+    }
+    n
+}
+
+// The owner's number, 0 for a free fragment.
+fn holder(free: bool, id: u32) -> u32
+    ensures { λ r. ⌜ r ≡ holderNumber (holderOf free id) ⌝ }
+{
+    if free { 0 } else { id }
+}
+
+// Three numbers stored from place i on.
+fn put_three(out: &mut [u32], i: usize, a: u32, b: u32, c: u32)
+    requires { ⌜ i + 3 ≤ length (now out) ⌝ }
+    ensures { λ _. ⌜ now (out .exit) ≡ take i (now (out .entry)) ++ (a ∷ b ∷ c ∷ []) ++ drop (i + 3) (now (out .entry)) ⌝ }
+{
+    out[i] = a;
+    out[i + 1] = b;
+    out[i + 2] = c;
+}
