@@ -13,3 +13,7 @@ pub mod ReadsAfter
 pub mod Sharing
 pub mod Thirteen
 pub mod Fourteen
+pub mod CrossKey
+pub mod SamePieces
+pub mod Spaced
+pub mod Returned

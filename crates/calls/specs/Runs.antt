@@ -1,9 +1,10 @@
 -- Runs of calls (document 01, "Runs in demand 3"), on pieces and cross checks. Assumes nothing.
 use mathlib.Core.Path.{_≡_}
 use mathlib.Core.List.{List, [], _∷_, _++_}
-use Prim.Native.Nat.{ℕ}
+use Prim.Native.Nat.{ℕ, zero, suc}
 use Rattle.geometry.specs.declared.Geometry.{Geometry}
 use Rattle.model.specs.Chain.{Pair}
+use Rattle.model.specs.Pieces.{Piece, objectPairs}
 use Rattle.calls.specs.Edits.{Disc, Edit, takes, gives, pairsIn, crossed}
 use Rattle.calls.specs.Judge.{Call, Verdict, refused, accepted, judge, obey}
 
@@ -39,3 +40,10 @@ pub data Undone : List Edit → Type 0 where
 abbrev pub crossRun : Geometry → List Edit → List ℕ → List ℕ
 crossRun g [] cs = cs
 crossRun g (e ∷ es) cs = crossRun g es (crossed g (pairsIn e) cs)
+
+-- The cross checks with the changes that the present pieces stand for taken out: what giving each of n objects its pieces changes,
+-- applied once more. It is the same after every run (`proofs/CrossKey`), so the cross checks are a function of the starting map
+-- and the present pieces.
+abbrev pub crossKey : Geometry → List Piece → ℕ → List ℕ → List ℕ
+crossKey g l zero cs = cs
+crossKey g l (suc n) cs = crossKey g l n (crossed g (objectPairs g n l) cs)

@@ -1,0 +1,103 @@
+-- What an accepted call that gives pairs has tested: its id is an ordinary one, it gives some pairs, and a place of the same pairs under
+-- the same id is accepted too. So a claim is the place of its pair.
+use mathlib.Core.Path.{_≡_, refl, sym, ap, _∙_, subst}
+use mathlib.Core.Bool.{Bool, true, false, cond, not, _&&_, false≢true}
+use mathlib.Core.List.{List, [], _∷_, map}
+use mathlib.Core.Option.{Option, none, some}
+use Prim.Native.Nat.{ℕ, zero, suc, _+_, _-_, _*_, _%_, _<_, _≤_}
+use native.Mathlib.Omega.{arith}
+use lib.Dec.{eqb, ltb, leb}
+use lib.ListN.{length}
+use borrow.Author.Tests.{eqb-true, eq-eqb, ltb-true, lt-ltb, le-leb}
+use Rattle.bits.proofs.Tests.{by-test, both, and-true}
+use Rattle.geometry.specs.declared.Geometry.{Geometry}
+use Rattle.geometry.specs.Accepted.{AcceptedGeometry}
+use Rattle.model.specs.Chain.{Pair}
+use Rattle.model.specs.Pieces.{Piece, piecesOf, objectPairs}
+use Rattle.model.proofs.Options.{none-some, some-some}
+use Rattle.calls.specs.Edits.{Disc, give, Edit, takes, gives, edit}
+use Rattle.calls.specs.Holes.{holesFrom, allApart}
+use Rattle.calls.specs.Judge.{Call, release, place, claim, Verdict, accepted, unless, isEmpty, editable, pairsFrom, numbersOf, pairsFit, listFits, need, firstHole, taken, lowest, claimIn, judge}
+use Rattle.calls.proofs.Kept.{some-length}
+use Rattle.calls.proofs.HolesLeft.{apart-all}
+use Rattle.calls.proofs.Undo.{Allowed, read-back}
+use Rattle.calls.proofs.RunsKept.{unless-inv, same-edit, lowest-lt, allowed}
+use Rattle.calls.proofs.Returned.{listed-fits, pairs-numbers, length-numbers}
+use Rattle.runs.proofs.PiecesKept.{AcceptedPieces, accepted-edit}
+
+pub record GivenFacts (g : Geometry) (e : Edit) (id : ℕ) (qs : List Pair) : Type 0 where
+  pub ordinary : editable g id ≡ true
+  pub some-pairs : qs ≡ [] → ⊥
+
+pairs-some : (list : List ℕ) → 0 < length list → length list % 2 ≡ 0 → pairsFrom list ≡ [] → ⊥
+pairs-some [] h k e = omega arith
+pairs-some (a ∷ []) h k e = omega arith
+pairs-some (a ∷ b ∷ l) h k e = let z : _≡_ {A = ℕ} 0 1 = cc in omega arith
+
+lowest-least : (l : List Piece) (n id i : ℕ) → lowest l n id ≡ some i → id ≤ i
+lowest-least l zero id i h = absurd (none-some h)
+lowest-least l (suc n) id i h =
+    by-test (isEmpty (piecesOf id l))
+    (λ t. let k : id ≡ i = some-some (simp t at h) in omega arith)
+    (λ t. omega (arith, lowest-least l n (suc id) i (simp t at h)))
+
+taken-given : {id jd : ℕ} {ps qs : List Pair} → accepted (takes id ps) ≡ accepted (gives jd qs) → ⊥
+taken-given h = let z : _≡_ {A = ℕ} 0 1 = cc in omega arith
+
+given-id : {id jd : ℕ} {ps qs : List Pair} → accepted (gives id ps) ≡ accepted (gives jd qs) → id ≡ jd
+given-id h = cc
+
+given-pairs : {id jd : ℕ} {ps qs : List Pair} → accepted (gives id ps) ≡ accepted (gives jd qs) → ps ≡ qs
+given-pairs h = cc
+
+pub given-facts : (g : Geometry) (l : List Piece) (c : Call) (id : ℕ) (qs : List Pair) → judge g l c ≡ accepted (gives id qs) → GivenFacts g (gives id qs) id qs
+given-facts g l (release jd room) id qs h =
+    let ps = objectPairs g jd l in
+    let e = gives id qs in
+    let a = unless-inv (editable g jd) 8 (unless (not (isEmpty (piecesOf jd l))) 10 (unless (leb (2 * length ps) room) 17 (accepted (takes jd ps)))) e h in
+    let b = unless-inv (not (isEmpty (piecesOf jd l))) 10 (unless (leb (2 * length ps) room) 17 (accepted (takes jd ps))) e (a .1) in
+    let c = unless-inv (leb (2 * length ps) room) 17 (accepted (takes jd ps)) e (b .1) in
+    absurd (taken-given (c .1))
+given-facts g l (place jd list) id qs h =
+    let e = gives id qs in
+    let a = unless-inv (editable g jd) 8 _ e h in
+    let b = unless-inv (isEmpty (piecesOf jd l)) 11 _ e (a .1) in
+    let c = unless-inv (listFits g jd list) 12 _ e (b .1) in
+    let d = unless-inv (allApart g 0 (g .zones) (give jd (pairsFrom list) l)) 13 (accepted (gives jd (pairsFrom list))) e (c .1) in
+    let f = both (ltb 0 (length list) && eqb (length list % 2) 0) (pairsFit g jd 0 (pairsFrom list)) (c .0) in
+    let k = both (ltb 0 (length list)) (eqb (length list % 2) 0) (f .0) in
+    record {
+      ordinary = subst (λ (x : ℕ). editable g x ≡ true) (given-id (d .1)) (a .0);
+      some-pairs = λ n. pairs-some list (ltb-true 0 (length list) (k .0)) (eqb-true (length list % 2) 0 (k .1)) (given-pairs (d .1) ∙ n);
+    }
+given-facts g l (claim size) id qs h =
+    let a = unless-inv (ltb 0 size) 12 (claimIn (lowest l (g .ids * g .zones - 3) 3) (firstHole (need g size) (holesFrom g 0 (g .zones) l)) (g .shortest) (need g size)) (gives id qs) h in
+    go (lowest l (g .ids * g .zones - 3) 3) refl (firstHole (need g size) (holesFrom g 0 (g .zones) l)) (a .1)
+  where
+    go : (o : Option ℕ) → lowest l (g .ids * g .zones - 3) 3 ≡ o → (p : Option Pair) → claimIn o p (g .shortest) (need g size) ≡ accepted (gives id qs) → GivenFacts g (gives id qs) id qs
+    go none i p q = let z : _≡_ {A = ℕ} 0 1 = cc in absurd (omega arith)
+    go (some jd) i none q = let z : _≡_ {A = ℕ} 0 1 = cc in absurd (omega arith)
+    go (some jd) i (some t) q =
+        record {
+          ordinary = subst (λ (x : ℕ). editable g x ≡ true) (given-id q)
+              (and-true (leb 3 jd) (ltb jd (g .ids * g .zones)) (le-leb 3 jd (lowest-least l (g .ids * g .zones - 3) 3 jd i)) (lt-ltb jd (g .ids * g .zones) (omega (arith, lowest-lt l (g .ids * g .zones - 3) 3 jd i))));
+          some-pairs = λ n. let e : taken (g .shortest) (need g size) t ∷ [] ≡ [] = given-pairs q ∙ n in let z : _≡_ {A = ℕ} 0 1 = cc in omega arith;
+        }
+
+-- a place of the same pairs
+pub given-placed : (g : Geometry) (ok : AcceptedGeometry g) (s : Disc) → AcceptedPieces g (s .pieces) → (c : Call) (id : ℕ) (qs : List Pair) → judge g (s .pieces) c ≡ accepted (gives id qs)
+    → judge g (s .pieces) (place id (numbersOf qs)) ≡ accepted (gives id qs)
+given-placed g ok s k c id qs h =
+    let l = s .pieces in
+    let a = allowed g l c (gives id qs) ok (k .fit) h in
+    let f = given-facts g l c id qs h in
+    let fit = a .1 (s .cross) in
+    let e : pairsFrom (numbersOf qs) ≡ qs = pairs-numbers qs in
+    let p : pairsFit g id 0 qs ≡ true = subst (λ (x : List Pair). pairsFit g id 0 x ≡ true) (read-back g id qs l (a .0)) (listed-fits g ok id (give id qs l) fit (accepted-edit g ok s k c (gives id qs) h .clusters)) in
+    let t : isEmpty (piecesOf id l) ≡ true = ap isEmpty (a .0 .0) in
+    let n : ltb 0 (length (numbersOf qs)) ≡ true = lt-ltb 0 (length (numbersOf qs)) (omega (arith, length-numbers qs, some-length qs (f .some-pairs))) in
+    let v : eqb (length (numbersOf qs) % 2) 0 ≡ true = eq-eqb (length (numbersOf qs) % 2) 0 (omega (arith, length-numbers qs)) in
+    let w : listFits g id (numbersOf qs) ≡ true = and-true (ltb 0 (length (numbersOf qs)) && eqb (length (numbersOf qs) % 2) 0) (pairsFit g id 0 (pairsFrom (numbersOf qs)))
+    (and-true (ltb 0 (length (numbersOf qs))) (eqb (length (numbersOf qs) % 2) 0) n v) (subst (λ (x : List Pair). pairsFit g id 0 x ≡ true) (sym e) p) in
+    let d : allApart g 0 (g .zones) (give id (pairsFrom (numbersOf qs)) l) ≡ true = subst (λ (x : List Pair). allApart g 0 (g .zones) (give id x l) ≡ true) (sym e) (apart-all g 0 (g .zones) (give id qs l) (λ i lo hi. fit .parts i (omega arith))) in
+    simp (f .ordinary, t, w, d) (ap (λ (x : List Pair). accepted (gives id x)) e)

@@ -1,0 +1,135 @@
+-- An accepted map in which no two free fragments touch: its pieces and cross checks are accepted ones, and it is what is
+-- written from them. The check is taken apart into its tests, and those of the zones into what each zone is found to be.
+use mathlib.Core.Path.{_≡_, refl, sym, ap, _∙_, subst, subst⁻¹}
+use mathlib.Core.Bool.{Bool, true, false, cond}
+use mathlib.Core.List.{List, [], _∷_}
+use mathlib.Core.Option.{Option, none, some}
+use Prim.Native.Nat.{ℕ, suc, _*_}
+use native.Mathlib.Omega.{arith}
+use lib.Dec.{eqb, ltb}
+use lib.ListN.{length, getD, length-map}
+use borrow.Author.Tests.{eqb-true}
+use Rattle.bits.specs.Bits.{Bytes}
+use Rattle.bits.proofs.Tests.{by-test}
+use Rattle.checks.specs.Words.{zoneCheck}
+use Rattle.checks.specs.Cross.{crossOf}
+use Rattle.geometry.specs.declared.Geometry.{Geometry}
+use Rattle.geometry.specs.Record.{discRecord, geometryOf}
+use Rattle.geometry.specs.Ranges.{recordFits}
+use Rattle.geometry.specs.Accepted.{AcceptedGeometry}
+use Rattle.geometry.proofs.Numbers.{test-gives-accepted}
+use Rattle.model.specs.Chain.{Entry, noneTouch}
+use Rattle.model.specs.Blocks.{flat}
+use Rattle.model.specs.Pieces.{piecesOfZones}
+use Rattle.model.specs.Verdict.{ZoneRead, bad, good, MapRead, entries, joinZone, zoneRead, zonesRead, badCheck, crossSum, afterChecks, blocksRead, blocksOf, lengthFits, mapRead}
+use Rattle.model.specs.Verdict as read
+use Rattle.model.proofs.Options.{none-some}
+use Rattle.runs.specs.Steps.{touching, discOf}
+use Rattle.runs.proofs.Slices.{Sized, EachBytes, flat-blocks, sized-blocks, length-blocks, each-bytes}
+use Rattle.runs.proofs.ZoneFound.{zone-found}
+use Rattle.runs.proofs.MapFound.{ZonesFound, zone-pieces, pieces-found, as-read}
+use Rattle.runs.proofs.BytesKept.{crosses-of-bytes}
+use Rattle.runs.proofs.DiscKept.{AcceptedDisc}
+use Rattle.runs.proofs.StepWritten.{MapOf, writtenMap}
+
+refused-entries : {n z : ℕ} {ess : List (List Entry)} → read.refused n z ≡ entries ess → ⊥
+refused-entries e = let z : _≡_ {A = ℕ} 0 1 = cc in omega arith
+
+pub entries-entries : {ds es : List (List Entry)} → entries ds ≡ entries es → ds ≡ es
+entries-entries e = cc
+
+-- the zones one by one
+module _ (g : Geometry) (ok : AcceptedGeometry g) where
+  pub zones-found : (z i j : ℕ) (bs : List (List ℕ)) (ess : List (List Entry)) → Sized (g .sector) bs → EachBytes bs
+      → badCheck i bs ≡ none → zonesRead g z bs ≡ entries ess → touching j ess ≡ none → ZonesFound g z bs ess
+  zones-found z i j [] ess y w c r t = subst (ZonesFound g z []) (entries-entries r) tt
+  zones-found z i j (b ∷ bs) ess y w c r t =
+      go (zoneRead g z b) refl (zonesRead g (suc z) bs) refl r (λ ds e u. zones-found (suc z) (suc i) (suc j) bs ds (y .1) (w .1) (rest .1) e u)
+    where
+      rest : (getD b 0 0 ≡ zoneCheck b) × (badCheck (suc i) bs ≡ none)
+      rest =
+          by-test (eqb (getD b 0 0) (zoneCheck b))
+          (λ h. (eqb-true (getD b 0 0) (zoneCheck b) h, simp h at c))
+          (λ h. absurd (none-some (sym (simp h at c))))
+
+      go : (v : ZoneRead) → zoneRead g z b ≡ v → (q : MapRead) → zonesRead g (suc z) bs ≡ q → joinZone z v q ≡ entries ess
+          → ((ds : List (List Entry)) → zonesRead g (suc z) bs ≡ entries ds → touching (suc j) ds ≡ none → ZonesFound g (suc z) bs ds) → ZonesFound g z (b ∷ bs) ess
+      go (bad n) e q f h ih = absurd (refused-entries h)
+      go (good es) e (read.refused n a) f h ih = absurd (refused-entries h)
+      go (good es) e (entries ds) f h ih =
+          let same : es ∷ ds ≡ ess = entries-entries h in
+          let t2 : touching j (es ∷ ds) ≡ none = subst⁻¹ (λ (x : List (List Entry)). touching j x ≡ none) same t in
+          subst (ZonesFound g z (b ∷ bs)) same
+          (by-test (noneTouch false es)
+          (λ u. (zone-found g ok z b es (y .0) (w .0) (rest .0) u e, ih ds f (simp u at t2)))
+          (λ u. absurd (none-some (sym (simp u at t2)))))
+
+-- the check of the whole map, test by test
+pub record MapTests (m : List ℕ) (ess : List (List Entry)) : Type 0 where
+  pub record-fits : recordFits (discRecord m) ≡ true
+  pub whole : length m ≡ (geometryOf m) .zones * (geometryOf m) .sector
+  pub checks : badCheck 0 (blocksOf (geometryOf m) m) ≡ none
+  pub sum : crossSum (blocksOf (geometryOf m) m) ≡ 255
+  pub zones : zonesRead (geometryOf m) 0 (blocksOf (geometryOf m) m) ≡ entries ess
+
+if-passed : (b : Bool) (n z : ℕ) (r : MapRead) (ess : List (List Entry)) → cond b r (read.refused n z) ≡ entries ess → (b ≡ true) × (r ≡ entries ess)
+if-passed true n z r ess e = (refl, e)
+if-passed false n z r ess e = absurd (refused-entries e)
+
+if-long : (b : Bool) (n z : ℕ) (r : MapRead) (ess : List (List Entry)) → cond b (read.refused n z) r ≡ entries ess → r ≡ entries ess
+if-long true n z r ess e = absurd (refused-entries e)
+if-long false n z r ess e = e
+
+if-checked : (o : Option ℕ) (r : MapRead) (ess : List (List Entry)) → afterChecks o r ≡ entries ess → (o ≡ none) × (r ≡ entries ess)
+if-checked none r ess e = (refl, e)
+if-checked (some z) r ess e = absurd (refused-entries e)
+
+pub map-tests : (m : List ℕ) (ess : List (List Entry)) → mapRead m ≡ entries ess → MapTests m ess
+map-tests m ess e =
+    let g = geometryOf m in
+    let bs = blocksOf g m in
+    let a = if-long (ltb (length m) 64) 1 0 (cond (recordFits (discRecord m)) (cond (lengthFits g m) (blocksRead g bs) (read.refused 1 0)) (read.refused 2 0)) ess e in
+    let b = if-passed (recordFits (discRecord m)) 2 0 (cond (lengthFits g m) (blocksRead g bs) (read.refused 1 0)) ess a in
+    let c = if-passed (lengthFits g m) 1 0 (blocksRead g bs) ess (b .1) in
+    let d = if-checked (badCheck 0 bs) (cond (eqb (crossSum bs) 255) (zonesRead g 0 bs) (read.refused 4 0)) ess (c .1) in
+    let f = if-passed (eqb (crossSum bs) 255) 4 0 (zonesRead g 0 bs) ess (d .1) in
+    record { record-fits = b .0; whole = eqb-true (length m) (g .zones * g .sector) (c .0); checks = d .0; sum = eqb-true (crossSum bs) 255 (f .0); zones = f .1 }
+
+module _ (m : List ℕ) (ess : List (List Entry)) (bytes : Bytes m) (accepted : mapRead m ≡ entries ess) where
+  tests : MapTests m ess
+  tests = map-tests m ess accepted
+
+  pub map-geometry : AcceptedGeometry (geometryOf m)
+  map-geometry = test-gives-accepted (discRecord m) (tests .record-fits)
+
+  map-each-bytes : EachBytes (blocksOf (geometryOf m) m)
+  map-each-bytes =
+      let g = geometryOf m in
+      each-bytes (blocksOf g m) (subst⁻¹ Bytes (flat-blocks (g .sector) (g .zones) m (tests .whole)) bytes)
+
+  pub map-of : MapOf (geometryOf m) m
+  map-of = record { geometry = refl; record-fits = tests .record-fits; accepted = map-geometry; whole = tests .whole; bytes = bytes }
+
+  module _ (apart : touching 0 ess ≡ none) where
+    pub map-found : ZonesFound (geometryOf m) 0 (blocksOf (geometryOf m) m) ess
+    map-found =
+        let g = geometryOf m in
+        zones-found g map-geometry 0 0 0 (blocksOf g m) ess (sized-blocks (g .sector) (g .zones) m (tests .whole)) map-each-bytes
+        (tests .checks) (tests .zones) apart
+
+    pub map-disc : AcceptedDisc (geometryOf m) (discOf m ess)
+    map-disc =
+        let g = geometryOf m in
+        record {
+          pieces = pieces-found g map-geometry (blocksOf g m) ess (length-blocks (g .sector) (g .zones) m) map-found;
+          count = length-map (blocksOf g m) crossOf ∙ length-blocks (g .sector) (g .zones) m;
+          sum = tests .sum;
+          bytes = crosses-of-bytes (blocksOf g m) map-each-bytes;
+        }
+
+    -- it is as it would be written
+    pub map-as-written : writtenMap (geometryOf m) m (discOf m ess) ≡ m
+    map-as-written =
+        let g = geometryOf m in
+        ap flat (as-read g map-geometry (piecesOfZones g 0 ess) 0 (blocksOf g m) ess map-found (zone-pieces g 0 (blocksOf g m) ess map-found))
+        ∙ flat-blocks (g .sector) (g .zones) m (tests .whole)

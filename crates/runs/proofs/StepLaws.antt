@@ -1,0 +1,150 @@
+-- Demand 2's and demand 3's statements on single steps: what an accepted call leaves, and that an undo at once is accepted and
+-- restores every byte.
+use mathlib.Core.Path.{_≡_, refl, sym, ap, ap₂, _∙_, subst, subst⁻¹}
+use mathlib.Core.Bool.{Bool, true, false, not, false≢true}
+use mathlib.Core.List.{List, [], _∷_, map}
+use Prim.Native.Nat.{ℕ, _*_, _<_, _≤_}
+use native.Mathlib.Omega.{arith}
+use lib.Dec.{eqb, ltb, leb}
+use lib.ListN.{length, length-append, length-map}
+use Rattle.geometry.specs.declared.Geometry.{Geometry}
+use Rattle.geometry.specs.Record.{geometryOf}
+use Rattle.geometry.specs.Accepted.{AcceptedGeometry}
+use Rattle.model.specs.Chain.{Pair}
+use Rattle.model.specs.Pieces.{Piece, keep, piecesOf, late, rotate, objectPairs}
+use Rattle.calls.specs.Edits.{Disc, without, give, Edit, takes, gives, edit}
+use Rattle.calls.specs.Judge.{Call, release, place, claim, Verdict, unless, isEmpty, editable, numbersOf, judge, obey}
+use Rattle.calls.specs.Judge as judged
+use Rattle.calls.specs.Runs.{edits, Undone, nothing, strike, released, restored}
+use Rattle.calls.specs.Runs as onPieces
+use Rattle.calls.proofs.Kept.{length-parts}
+use Rattle.calls.proofs.RunsKept.{unless-inv, same-edit, allowed}
+use Rattle.calls.proofs.ReadsAfter.{ListedAfter, listed-after}
+use Rattle.calls.proofs.Undo.{Allowed}
+use Rattle.calls.proofs.Returned.{place-back, release-back}
+use Rattle.runs.specs.Steps.{Outcome, refused, done, byVerdict, discOf, outcome, bytesAfter, step, steps}
+use Rattle.runs.specs.Editable.{zonesOf, Editable, listedOn, NamedMoved, editId, ReadsAfter}
+use Rattle.runs.specs.Demand3.{Accepted}
+use Rattle.runs.proofs.PiecesKept.{AcceptedPieces}
+use Rattle.runs.proofs.StepWritten.{outcome-judged}
+use Rattle.runs.proofs.MapAccepted.{map-geometry, map-disc}
+use Rattle.runs.proofs.RunsOnBytes.{ReadsAs, undone-bytes, step-accepted, bytes-kept}
+use Rattle.runs.proofs.ZonesAfter.{zone-untouched}
+use Rattle.runs.proofs.EditsOf.{judged-done}
+use Rattle.runs.proofs.EveryRun.{reads-listed, reads-editable}
+use Rattle.runs.proofs.Given.{given-facts, given-placed}
+
+pub refused-keeps : (m : List ℕ) (c : Call) (n z : ℕ) → outcome m c ≡ refused n z → step m c ≡ m
+refused-keeps m c n z h = ap (bytesAfter m) h
+
+-- on a map that reads as a disc, a verdict is the outcome
+pub reads-outcome : (g : Geometry) (s : Disc) (m : List ℕ) → ReadsAs g s m → (c : Call) (e : Edit) → judge g (s .pieces) c ≡ judged.accepted e → Accepted m c e
+reads-outcome g s m r c e h = record {
+  disc = edit g e s;
+  is = outcome-judged m (r .0) (r .1) (r .2) c ∙ ap₂ (λ (x : Geometry) (d : Disc). byVerdict x d (judge x (d .pieces) c)) (r .4) (r .3) ∙ ap (byVerdict g s) h;
+}
+
+two-edits : (g : Geometry) (s : Disc) (c d : Call) (a b : Edit) → judge g (s .pieces) c ≡ judged.accepted a → judge g ((edit g a s) .pieces) d ≡ judged.accepted b
+    → edits g s (c ∷ d ∷ []) ≡ a ∷ b ∷ []
+two-edits g s c d a b h k =
+    ap (λ (v : Verdict). onPieces.kept v (edits g (obey g v s) (d ∷ []))) h ∙ ap (λ (v : Verdict). a ∷ onPieces.kept v []) k
+
+module _ (m : List ℕ) (ed : Editable m) where
+  abbrev g : Geometry
+  g = geometryOf m
+
+  abbrev s : Disc
+  s = discOf m (zonesOf m)
+
+  ok : AcceptedGeometry (geometryOf m)
+  ok = map-geometry m (zonesOf m) (ed .bytes) (ed .accepted)
+
+  pieces-ok : AcceptedPieces (geometryOf m) ((discOf m (zonesOf m)) .pieces)
+  pieces-ok = map-disc m (zonesOf m) (ed .bytes) (ed .accepted) (ed .apart) .pieces
+
+  verdict : (c : Call) (e : Edit) → Accepted m c e → judge (geometryOf m) ((discOf m (zonesOf m)) .pieces) c ≡ judged.accepted e
+  verdict c e a = judged-done m (zonesOf m) (ed .accepted) (ed .apart) c e (a .disc) (a .is)
+
+  after-reads : (c : Call) (e : Edit) → Accepted m c e → ReadsAs (geometryOf m) (edit (geometryOf m) e (discOf m (zonesOf m))) (step m c)
+  after-reads c e a = step-accepted m (zonesOf m) (ed .bytes) (ed .accepted) (ed .apart) c e (verdict c e a) .2
+
+  -- an edit and its undo leave every byte
+  undo : (c d : Call) (a b : Edit) → judge (geometryOf m) ((discOf m (zonesOf m)) .pieces) c ≡ judged.accepted a
+      → judge (geometryOf m) ((edit (geometryOf m) a (discOf m (zonesOf m))) .pieces) d ≡ judged.accepted b → Undone (a ∷ b ∷ []) → steps m (c ∷ d ∷ []) ≡ m
+  undo c d a b h k u =
+      undone-bytes m (zonesOf m) (ed .bytes) (ed .accepted) (ed .apart) (c ∷ d ∷ []) (subst⁻¹ Undone (two-edits (geometryOf m) s c d a b h k) u)
+
+  pub reads-after : (c : Call) (e : Edit) → Accepted m c e → ReadsAfter m e (step m c)
+  reads-after c e a =
+      let h = verdict c e a in
+      let r = after-reads c e a in
+      let w = listed-after (geometryOf m) s e (allowed (geometryOf m) (s .pieces) c e ok (pieces-ok .fit) h .0) in
+      let l = reads-listed (geometryOf m) (edit g e s) (step m c) r in
+      record {
+        again = reads-editable (geometryOf m) (edit g e s) (step m c) r (bytes-kept m (zonesOf m) (ed .bytes) (ed .accepted) (ed .apart) (c ∷ []));
+        same-disc = r .4;
+        moved = named e w l;
+        others = λ id n. l id ∙ rest e w id n;
+        untouched = λ z k t. zone-untouched m (zonesOf m) (ed .bytes) (ed .accepted) (ed .apart) c e h z k t;
+      }
+    where
+      named : (e : Edit) → ListedAfter (geometryOf m) (s .pieces) e ((edit (geometryOf m) e s) .pieces)
+          → ((id : ℕ) → listedOn (step m c) id ≡ objectPairs (geometryOf m) id ((edit (geometryOf m) e s) .pieces)) → NamedMoved m e (step m c)
+      named (takes id qs) w l = (w .0, l id ∙ w .1)
+      named (gives id qs) w l = (w .0, l id ∙ w .1)
+
+      rest : (e : Edit) → ListedAfter (geometryOf m) (s .pieces) e ((edit (geometryOf m) e s) .pieces) → (id : ℕ) → (id ≡ editId e → ⊥)
+          → objectPairs (geometryOf m) id ((edit (geometryOf m) e s) .pieces) ≡ listedOn m id
+      rest (takes id qs) w j n = w .2 j n
+      rest (gives id qs) w j n = w .2 j n
+
+  pub release-place : (id room : ℕ) (qs : List Pair) → Accepted m (release id room) (takes id qs)
+      → Accepted (step m (release id room)) (place id (numbersOf qs)) (gives id qs) × (steps m (release id room ∷ place id (numbersOf qs) ∷ []) ≡ m)
+  release-place id room qs a =
+      let P = s .pieces in
+      let ps = objectPairs (geometryOf m) id P in
+      let c = release id room in
+      let e = takes id qs in
+      let h = verdict c e a in
+      let q : qs ≡ ps = allowed (geometryOf m) P c e ok (pieces-ok .fit) h .0 in
+      let x = unless-inv (editable (geometryOf m) id) 8 (unless (not (isEmpty (piecesOf id P))) 10 (unless (leb (2 * length ps) room) 17 (judged.accepted (takes id ps)))) e h in
+      let y = unless-inv (not (isEmpty (piecesOf id P))) 10 (unless (leb (2 * length ps) room) 17 (judged.accepted (takes id ps))) e (x .1) in
+      let k : judge (geometryOf m) (without id P) (place id (numbersOf qs)) ≡ judged.accepted (gives id qs) =
+      subst⁻¹ (λ (r : List Pair). judge (geometryOf m) (without id P) (place id (numbersOf r)) ≡ judged.accepted (gives id r)) q
+      (place-back (geometryOf m) ok id P (pieces-ok .fit) (pieces-ok .clusters) (x .0) (some-listed id P (y .0))) in (
+        reads-outcome (geometryOf m) (edit (geometryOf m) e s) (step m c) (after-reads c e a) (place id (numbersOf qs)) (gives id qs) k,
+        undo c (place id (numbersOf qs)) e (gives id qs) h k (strike [] [] (restored id qs) nothing),
+      )
+    where
+      some-listed : (id : ℕ) (l : List Piece) → not (isEmpty (piecesOf id l)) ≡ true → objectPairs (geometryOf m) id l ≡ [] → ⊥
+      some-listed id l t e =
+          let X = piecesOf id l in
+          let k : length (objectPairs (geometryOf m) id l) ≡ length X =
+          length-map (rotate (late (geometryOf m) id) X) (λ (p : Piece). p .at)
+          ∙ length-append (keep (late (geometryOf m) id) X) (keep (λ x. not (late (geometryOf m) id x)) X) ∙ length-parts (late (geometryOf m) id) X in
+          not-none X t (sym k ∙ ap length e)
+        where
+          not-none : (l : List Piece) → not (isEmpty l) ≡ true → length l ≡ 0 → ⊥
+          not-none [] t e = false≢true t
+          not-none (p ∷ ps) t e = omega arith
+
+  pub given-release : (c : Call) (id room : ℕ) (qs : List Pair) → Accepted m c (gives id qs) → 2 * length qs ≤ room
+      → Accepted (step m c) (release id room) (takes id qs) × (steps m (c ∷ release id room ∷ []) ≡ m)
+  given-release c id room qs a n =
+      let P = s .pieces in
+      let e = gives id qs in
+      let h = verdict c e a in
+      let f = given-facts (geometryOf m) P c id qs h in
+      let k = release-back (geometryOf m) id room qs P (allowed (geometryOf m) P c e ok (pieces-ok .fit) h .0) (f .ordinary) (f .some-pairs) n in (
+        reads-outcome (geometryOf m) (edit (geometryOf m) e s) (step m c) (after-reads c e a) (release id room) (takes id qs) k,
+        undo c (release id room) e (takes id qs) h k (strike [] [] (released id qs qs) nothing),
+      )
+
+  pub claim-places : (size id : ℕ) (qs : List Pair) → Accepted m (claim size) (gives id qs)
+      → Accepted m (place id (numbersOf qs)) (gives id qs) × (step m (place id (numbersOf qs)) ≡ step m (claim size))
+  claim-places size id qs a =
+      let h = verdict (claim size) (gives id qs) a in
+      let k = given-placed (geometryOf m) ok s pieces-ok (claim size) id qs h in
+      let x = step-accepted m (zonesOf m) (ed .bytes) (ed .accepted) (ed .apart) (place id (numbersOf qs)) (gives id qs) k in
+      let y = step-accepted m (zonesOf m) (ed .bytes) (ed .accepted) (ed .apart) (claim size) (gives id qs) h in
+      (record { disc = edit g (gives id qs) s; is = x .0 }, x .1 ∙ sym (y .1))

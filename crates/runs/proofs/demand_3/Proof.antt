@@ -1,0 +1,19 @@
+-- The laws of `StepLaws` and `EveryRun`.
+use Rattle.runs.proofs.StepLaws.{refused-keeps, reads-after, release-place, given-release, claim-places}
+use Rattle.runs.proofs.EveryRun.{run-claims}
+use Rattle.runs.proofs.demand_3.Statement.{statement}
+use Rattle.runs.proofs.demand_3.Tie as tie
+
+returns : tie.Need-returns
+returns c =
+    record {
+      reads-after = reads-after;
+      refused-keeps = refused-keeps;
+      release-place = release-place;
+      given-release = given-release;
+      claim-places = claim-places;
+      every-run = run-claims;
+    }
+
+pub demand-3-spec : {M : Type 1} → statement M
+demand-3-spec = tie.close (tie.spec returns)

@@ -1,0 +1,75 @@
+-- Demand 3, for every map that edits work on: each step, each undo, and every run of claims, places and releases, refused ones
+-- included. Assumes nothing.
+use mathlib.Core.Path.{_≡_}
+use mathlib.Core.List.{List, [], _∷_, map}
+use Prim.Native.Nat.{ℕ, _*_, _%_, _<_, _≤_}
+use lib.ListN.{length, getD}
+use Rattle.checks.specs.Cross.{crossOf}
+use Rattle.geometry.specs.declared.Geometry.{Geometry}
+use Rattle.geometry.specs.Record.{geometryOf}
+use Rattle.model.specs.Chain.{Pair}
+use Rattle.model.specs.Rules.{CheckRule, zoneBlock}
+use Rattle.model.specs.Verdict.{blocksOf}
+use Rattle.calls.specs.Edits.{Disc, Edit, takes, gives, pairsIn}
+use Rattle.calls.specs.Judge.{Call, release, place, claim, numbersOf}
+use Rattle.calls.specs.Runs.{Undone, crossRun}
+use Rattle.runs.specs.Steps.{Outcome, refused, done, outcome, step, steps}
+use Rattle.runs.specs.Editable.{Editable, listedOn, ReadsAfter}
+
+-- the accepted calls of a run, as their edits: "with refused calls struck out"
+abbrev pub kept : Outcome → List Edit → List Edit
+kept (refused n z) es = es
+kept (done e s) es = e ∷ es
+
+abbrev pub editsOf : List ℕ → List Call → List Edit
+editsOf m [] = []
+editsOf m (c ∷ cs) = kept (outcome m c) (editsOf (step m c) cs)
+
+-- a call is accepted, with this edit
+pub record Accepted (m : List ℕ) (c : Call) (e : Edit) : Type 0 where
+  pub disc : Disc
+  pub is : outcome m c ≡ done e disc
+
+-- equal "except perhaps in zone check and cross check bytes": bytes 0 and 3 of each block
+pub record SameButChecks (g : Geometry) (m n : List ℕ) : Type 0 where
+  pub long : length n ≡ length m
+  pub bytes : (i : ℕ) → (i % g .sector ≡ 0 → ⊥) → (i % g .sector ≡ 3 → ⊥) → getD n i 0 ≡ getD m i 0
+
+-- every object lists the same on both maps: those that are there, and those that are not
+abbrev pub SameLists : List ℕ → List ℕ → Type 0
+SameLists m n = (id : ℕ) → listedOn n id ≡ listedOn m id
+
+-- one run, whole
+pub record RunClaims (m : List ℕ) (cs : List Call) : Type 0 where
+  -- the map may be edited again, on the same disc
+  pub again : Editable (steps m cs)
+  pub same-disc : geometryOf (steps m cs) ≡ geometryOf m
+  -- "If after the run each object has its starting pieces, and no object is there that wasn't at the start, the map equals the
+  -- starting one except perhaps in zone check and cross check bytes."
+  pub same-pieces : SameLists m (steps m cs) → SameButChecks (geometryOf m) m (steps m cs)
+  -- "If each accepted step was undone last first, every byte is equal."
+  pub undone : Undone (editsOf m cs) → steps m cs ≡ m
+  -- "After every run each cross check is the starting one exclusive-ored with what the rule above gives its zone at each accepted
+  -- call, and each zone check is that of its block."
+  pub cross-checks : map crossOf (blocksOf (geometryOf m) (steps m cs)) ≡ crossRun (geometryOf m) (editsOf m cs) (map crossOf (blocksOf (geometryOf m) m))
+  pub zone-checks : (z : ℕ) → z < (geometryOf m) .zones → CheckRule (zoneBlock (geometryOf m) (steps m cs) z)
+  -- stronger than asked: where the pieces are as at the start, the check bytes are too. Every byte after a run is a function of
+  -- the starting map and the present pieces.
+  pub same-bytes : SameLists m (steps m cs) → steps m cs ≡ m
+
+pub record Demand3 : Type 0 where
+  -- a step, accepted or refused
+  pub reads-after : (m : List ℕ) → Editable m → (c : Call) (e : Edit) → Accepted m c e → ReadsAfter m e (step m c)
+  pub refused-keeps : (m : List ℕ) (c : Call) (n z : ℕ) → outcome m c ≡ refused n z → step m c ≡ m
+  -- "Release an ordinary object, with room for its list, and at once place the returned list under its number: both are accepted and
+  -- every byte is as before"
+  pub release-place : (m : List ℕ) → Editable m → (id room : ℕ) (qs : List Pair) → Accepted m (release id room) (takes id qs)
+      → Accepted (step m (release id room)) (place id (numbersOf qs)) (gives id qs) × (steps m (release id room ∷ place id (numbersOf qs) ∷ []) ≡ m)
+  -- "An accepted place or claim followed at once by its release, again with room, does the same."
+  pub given-release : (m : List ℕ) → Editable m → (c : Call) (id room : ℕ) (qs : List Pair) → Accepted m c (gives id qs) → 2 * length qs ≤ room
+      → Accepted (step m c) (release id room) (takes id qs) × (steps m (c ∷ release id room ∷ []) ≡ m)
+  -- an accepted claim is the place of its pair under its id
+  pub claim-places : (m : List ℕ) → Editable m → (size id : ℕ) (qs : List Pair) → Accepted m (claim size) (gives id qs)
+      → Accepted m (place id (numbersOf qs)) (gives id qs) × (step m (place id (numbersOf qs)) ≡ step m (claim size))
+  -- every run
+  pub every-run : (m : List ℕ) → Editable m → (cs : List Call) → RunClaims m cs

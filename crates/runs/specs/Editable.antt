@@ -1,0 +1,50 @@
+-- The maps that edits work on, and what the listing call shows of them (document 01, "Runs in demand 3"). Assumes nothing.
+use mathlib.Core.Path.{_≡_}
+use mathlib.Core.Bool.{Bool, true, false}
+use mathlib.Core.List.{List, [], _∷_}
+use mathlib.Core.Option.{none}
+use Prim.Native.Nat.{ℕ, _<_}
+use Rattle.bits.specs.Bits.{Bytes}
+use Rattle.geometry.specs.declared.Geometry.{Geometry}
+use Rattle.geometry.specs.Record.{geometryOf}
+use Rattle.model.specs.Chain.{Pair, Entry}
+use Rattle.model.specs.Rules.{zoneBlock}
+use Rattle.model.specs.Verdict.{MapRead, refused, entries, mapRead}
+use Rattle.model.specs.Pieces.{piecesOfZones, objectPairs}
+use Rattle.calls.specs.Edits.{Edit, takes, gives, pairsIn, touches}
+use Rattle.runs.specs.Steps.{touching}
+
+-- the entries of a map's zones; none where it is refused
+abbrev pub zonesIn : MapRead → List (List Entry)
+zonesIn (refused n z) = []
+zonesIn (entries ess) = ess
+
+abbrev pub zonesOf : List ℕ → List (List Entry)
+zonesOf m = zonesIn (mapRead m)
+
+-- "an accepted map in which no two free fragments of a zone touch"
+pub record Editable (m : List ℕ) : Type 0 where
+  pub bytes : Bytes m
+  pub accepted : mapRead m ≡ entries (zonesOf m)
+  pub apart : touching 0 (zonesOf m) ≡ none
+
+-- an object's pieces as pairs, as the listing call shows them; "it is there if it has any"
+abbrev pub listedOn : List ℕ → ℕ → List Pair
+listedOn m id = objectPairs (geometryOf m) id (piecesOfZones (geometryOf m) 0 (zonesOf m))
+
+-- the object that an edit names, and its pieces before and after
+abbrev pub NamedMoved : List ℕ → Edit → List ℕ → Type 0
+NamedMoved m (takes id qs) after = (listedOn m id ≡ qs) × (listedOn after id ≡ [])
+NamedMoved m (gives id qs) after = (listedOn m id ≡ []) × (listedOn after id ≡ qs)
+
+abbrev pub editId : Edit → ℕ
+editId (takes id qs) = id
+editId (gives id qs) = id
+
+-- demand 2: "After an edit the map reads as the old one with only the named pieces moved between free and owned."
+pub record ReadsAfter (m : List ℕ) (e : Edit) (after : List ℕ) : Type 0 where
+  pub again : Editable after
+  pub same-disc : geometryOf after ≡ geometryOf m
+  pub moved : NamedMoved m e after
+  pub others : (id : ℕ) → (id ≡ editId e → ⊥) → listedOn after id ≡ listedOn m id
+  pub untouched : (z : ℕ) → z < (geometryOf m) .zones → touches (geometryOf m) z (pairsIn e) ≡ false → zoneBlock (geometryOf m) after z ≡ zoneBlock (geometryOf m) m z
