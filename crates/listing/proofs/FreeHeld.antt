@@ -1,0 +1,51 @@
+-- The free spans are what holder 0 has: on an accepted map every owner is 1 or more, so no owned fragment counts as free.
+use mathlib.Core.Path.{_≡_, refl, sym, ap, ap₂, _∙_}
+use mathlib.Core.Bool.{true, cond, not, _&&_, _||_}
+use mathlib.Core.List.{List, [], _∷_, _++_, map}
+use Prim.Native.Nat.{ℕ, suc, _+_, _-_, _*_, _/_, _≤_}
+use native.Mathlib.Nat.{sub-zero}
+use native.Mathlib.Omega.{arith}
+use lib.Dec.{eqb, leb, ltb}
+use borrow.Author.Tests.{leb-true, ne-eqb}
+use Rattle.bits.proofs.Tests.{both}
+use Rattle.geometry.specs.declared.Geometry.{Geometry}
+use Rattle.model.specs.Chain.{Pair, Holder, free, owned, Entry}
+use Rattle.model.specs.Rules.{zoneBlock}
+use Rattle.model.specs.Verdict.{good, zoneRead, every, holderFits, idFits, endFits, firstOwned}
+use Rattle.model.specs.Pieces.{toDisc, freeIf, freeOf, freeSpans}
+use Rattle.zone.specs.Lines.{entriesIn, holderNumber}
+use Rattle.zone.proofs.ReadParts.{read-parts, is-read}
+use Rattle.map.specs.Accepted.{AcceptedMap}
+use Rattle.listing.specs.Held.{heldBy, inDiscBits, heldIn, heldFrom}
+use Rattle.listing.proofs.HeldZones.{held-turn, held-end, ReadInTurn, zones-in-turn}
+
+-- every holder of a zone that was read is free, or owned by 1 or more
+pub ids-fit : (g : Geometry) (z : ℕ) (b : List ℕ) (es : List Entry) → zoneRead g z b ≡ good es → every (idFits g) es ≡ true
+ids-fit g z b es e =
+    let p = both (every (idFits g) es && every (endFits g z) es) (not (eqb z (g .zones / 2)) || firstOwned 2 es) (read-parts g z b es e .owners) in
+    both (every (idFits g) es) (every (endFits g z) es) (p .0) .0
+
+free-step : (g : Geometry) (h : Holder) (q : Pair) (ps qs : List Pair) → holderFits g h ≡ true → ps ≡ qs → cond (eqb (holderNumber h) 0) (q ∷ ps) ps ≡ freeIf h q qs
+free-step g free q ps qs f e = ap (λ (r : List Pair). q ∷ r) e
+free-step g (owned id) q ps qs f e =
+    let l : 1 ≤ id = leb-true 1 id (both (leb 1 id) (ltb id (g .ids * g .zones)) f .0) in
+    rw (ne-eqb id 0 (λ k. omega arith)) e
+
+pub free-held : (g : Geometry) (es : List Entry) → every (idFits g) es ≡ true → heldBy 0 es ≡ freeOf es
+free-held g [] f = refl
+free-held g (e ∷ es) f =
+    let b = both (idFits g e) (every (idFits g) es) f in
+    free-step g (e .holder) (e .at) (heldBy 0 es) (freeOf es) (b .0) (free-held g es (b .1))
+
+module _ (m : List ℕ) (g : Geometry) where
+  free-from : (z : ℕ) (ess : List (List Entry)) → ReadInTurn m g z ess → freeSpans g z ess ≡ heldFrom g 0 m z (g .zones - z)
+  free-from z [] r = sym (held-end g 0 m z (g .zones) (omega arith))
+  free-from z (es ∷ ess) r =
+      let s : suc z ≡ z + 1 = omega arith in
+      let e : entriesIn g z (zoneBlock g m z) ≡ es = is-read g z (zoneBlock g m z) es (r .1) .0 in
+      let k : map (toDisc g z) (freeOf es) ≡ heldIn g 0 m z = sym (ap (inDiscBits g z) (ap (heldBy 0) e ∙ free-held g es (ids-fit g z (zoneBlock g m z) es (r .1)))) in
+      ap₂ (λ (x y : List Pair). x ++ y) k (free-from (suc z) ess (r .2) ∙ ap (λ (i : ℕ). heldFrom g 0 m i (g .zones - i)) s)
+      ∙ sym (held-turn g 0 m z (g .zones) (r .0))
+
+pub free-spans : {m : List ℕ} {g : Geometry} (a : AcceptedMap m g) → freeSpans g 0 (a .zones) ≡ heldFrom g 0 m 0 (g .zones)
+free-spans {m} {g} a = free-from m g 0 (a .zones) (zones-in-turn a) ∙ ap (heldFrom g 0 m 0) (sub-zero (g .zones))

@@ -1,0 +1,11 @@
+pub mod Stored
+pub mod Lines
+pub mod HeldZones
+pub mod Filled
+pub mod Ascend
+pub mod FreeHeld
+pub mod ObjectOrder
+pub mod Answers
+pub mod Hits
+pub mod Cover
+pub mod Laws

@@ -1,0 +1,50 @@
+-- What holds of the lists of an accepted map (demand 2). Assumes nothing.
+use mathlib.Core.Path.{_≡_}
+use mathlib.Core.List.{List, [], _∷_, _++_}
+use Prim.Native.Nat.{ℕ, suc, _+_, _-_, _<_, _≤_}
+use Rattle.geometry.specs.declared.Geometry.{Geometry}
+use Rattle.geometry.specs.Record.{geometryOf, geometryFrom}
+use Rattle.geometry.specs.Places.{discBits, startZone, discBit}
+use Rattle.model.specs.Chain.{Pair, Entry}
+use Rattle.model.specs.Verdict.{entries, mapRead}
+use Rattle.model.specs.Pieces.{Piece, piecesOfZones, objectPairs, freeSpans}
+use Rattle.listing.specs.Held.{heldFrom}
+
+-- bit d of the disc lies in a pair; a pair stands at a place of a list
+abbrev pub Within : Pair → ℕ → Type 0
+Within q d = (q .start ≤ d) × (d < q .start + q .len)
+
+pub data At : Pair → ℕ → List Pair → Type 0 where
+  first : {q : Pair} {qs : List Pair} → At q 0 (q ∷ qs)
+  later : {q p : Pair} {i : ℕ} {qs : List Pair} → At q i qs → At q (suc i) (p ∷ qs)
+
+-- where a bit lies: in the i-th free span, or in the i-th piece of an object
+pub data Place : Type 0 where
+  span : ℕ → Place
+  piece : ℕ → ℕ → Place
+
+module _ (g : Geometry) (ess : List (List Entry)) where
+  pub data LiesIn (d : ℕ) : Place → Type 0 where
+    in-span : (q : Pair) (i : ℕ) → At q i (freeSpans g 0 ess) → Within q d → LiesIn d (span i)
+    in-piece : (id : ℕ) (q : Pair) (i : ℕ) → At q i (objectPairs g id (piecesOfZones g 0 ess)) → Within q d → LiesIn d (piece id i)
+
+  -- "Free spans and objects together cover every allocation bit once"
+  pub record Covers : Type 0 where
+    pub somewhere : (d : ℕ) → d < discBits g → (p : Place) × LiesIn d p
+    pub once : (d : ℕ) (p q : Place) → LiesIn d p → LiesIn d q → p ≡ q
+
+pub record ListingLaws : Type 0 where
+  pub cover : (m : List ℕ) (ess : List (List Entry)) → mapRead m ≡ entries ess → Covers (geometryOf m) ess
+  -- "take all its fragments [of the start zone] in ascending order, then later zones, then from zone 0"
+  pub in-object-order : (m : List ℕ) (ess : List (List Entry)) → mapRead m ≡ entries ess → (id : ℕ) → 1 ≤ id → startZone (geometryOf m) id ≤ (geometryOf m) .zones
+      → objectPairs (geometryOf m) id (piecesOfZones (geometryOf m) 0 ess)
+      ≡ heldFrom (geometryOf m) id m (startZone (geometryOf m) id) ((geometryOf m) .zones - startZone (geometryOf m) id) ++ heldFrom (geometryOf m) id m 0 (startZone (geometryOf m) id)
+  -- "Free spans ascend": those of zone 0, then of the later zones
+  pub free-ascend : (m : List ℕ) (ess : List (List Entry)) → mapRead m ≡ entries ess
+      → freeSpans (geometryOf m) 0 ess ≡ heldFrom (geometryOf m) 0 m 0 ((geometryOf m) .zones)
+  -- document 000's object 690, 168 ids per zone: fragments in zones 0 0 0 2 3 4 4 6 come in the order 4 4 6 0 0 0 2 3
+  pub object-690 : let g = geometryFrom 8 11 10 8 32 12582912 in
+      let at : ℕ → ℕ → Piece = λ z b. record { at = record { start = discBit g z b; len = 12 }; owner = 690 } in
+      let pair : ℕ → ℕ → Pair = λ z b. record { start = discBit g z b; len = 12 } in
+      objectPairs g 690 (at 0 600 ∷ at 0 700 ∷ at 0 800 ∷ at 2 100 ∷ at 3 100 ∷ at 4 100 ∷ at 4 200 ∷ at 6 100 ∷ [])
+      ≡ pair 4 100 ∷ pair 4 200 ∷ pair 6 100 ∷ pair 0 600 ∷ pair 0 700 ∷ pair 0 800 ∷ pair 2 100 ∷ pair 3 100 ∷ []
