@@ -1,0 +1,10 @@
+pub mod FragmentWritten
+pub mod GapFragment
+pub mod Opened
+pub mod Starts
+pub mod Turns
+pub mod ListedPairs
+pub mod Passing
+pub mod Merged
+pub mod Sealed
+pub mod WholeZone

@@ -1,0 +1,3 @@
+pub mod ZoneEdit
+pub mod Redraw
+pub mod Merge
