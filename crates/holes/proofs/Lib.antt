@@ -1,0 +1,4 @@
+pub mod LinesApart
+pub mod ZonesTouching
+pub mod HoleFound
+pub mod HolesFree

@@ -1,0 +1,67 @@
+-- No two free lines in a row, one line at a time: what is left from line i on starts with line i's three numbers, and a line
+-- is free where its holder is 0. On a zone that keeps the rules no owner is 0, so its lines are apart exactly where no two
+-- free fragments touch.
+use mathlib.Core.Path.{_≡_, refl, sym, ap, _∙_}
+use mathlib.Core.Bool.{Bool, true, false, not, _&&_}
+use mathlib.Core.List.{List, [], _∷_, _++_}
+use Prim.Native.Nat.{ℕ, suc, _+_, _*_, _<_, _≤_}
+use native.Mathlib.Omega.{arith}
+use lib.Dec.{eqb, leb, ltb}
+use lib.ListN.{length, getD, take, drop, drop-of-length-le}
+use lib.Seq.{drop-cons, getD-take, length-take-le, take-at}
+use borrow.Author.Tests.{leb-true, ne-eqb}
+use Rattle.bits.proofs.Tests.{both}
+use Rattle.geometry.specs.declared.Geometry.{Geometry}
+use Rattle.model.specs.Chain.{Holder, free, owned, Entry, isFree, noneTouch}
+use Rattle.model.specs.Verdict.{every, holderFits, idFits}
+use Rattle.zone.specs.Lines.{lines, holderNumber}
+use Rattle.zone.proofs.ListWalk.{length-lines}
+use Rattle.holes.specs.Touching.{apartLines}
+
+-- of n lines, those from line i on
+abbrev pub linesLeft : ℕ → List ℕ → ℕ → List ℕ
+linesLeft n l i = drop (3 * i) (take (3 * n) l)
+
+module _ (n : ℕ) (l : List ℕ) (sized : 3 * n ≤ length l) where
+  long : length (take (3 * n) l) ≡ 3 * n
+  long = length-take-le (3 * n) l sized
+
+  -- whether line i is free, and the lines after it
+  apart-turn : (i : ℕ) → i < n → (wasFree : Bool)
+      → apartLines wasFree (linesLeft n l i) ≡ not (wasFree && eqb (getD l (3 * i) 0) 0) && apartLines (eqb (getD l (3 * i) 0) 0) (linesLeft n l (i + 1))
+  apart-turn i h wasFree =
+      let t : List ℕ = take (3 * n) l in
+      let h0 : 3 * i < length t = omega (arith, long) in
+      let h1 : suc (3 * i) < length t = omega (arith, long) in
+      let h2 : suc (suc (3 * i)) < length t = omega (arith, long) in
+      let s : suc (suc (suc (3 * i))) ≡ 3 * (i + 1) = omega arith in
+      rw (drop-cons t (3 * i) 0 h0, drop-cons t (suc (3 * i)) 0 h1, drop-cons t (suc (suc (3 * i))) 0 h2, s, getD-take (3 * n) l (3 * i) 0 (omega arith))
+
+  pub apart-stops : (i : ℕ) → i < n → (wasFree : Bool) → wasFree && eqb (getD l (3 * i) 0) 0 ≡ true → apartLines wasFree (linesLeft n l i) ≡ false
+  apart-stops i h wasFree e = rw e at (apart-turn i h wasFree)
+
+  pub apart-goes-on : (i : ℕ) → i < n → (wasFree : Bool) → wasFree && eqb (getD l (3 * i) 0) 0 ≡ false
+      → apartLines wasFree (linesLeft n l i) ≡ apartLines (eqb (getD l (3 * i) 0) 0) (linesLeft n l (i + 1))
+  apart-goes-on i h wasFree e = rw e at (apart-turn i h wasFree)
+
+  pub apart-ends : (i : ℕ) → n ≤ i → (wasFree : Bool) → apartLines wasFree (linesLeft n l i) ≡ true
+  apart-ends i h wasFree = ap (apartLines wasFree) (drop-of-length-le (take (3 * n) l) {i = 3 * i} (omega (arith, long)))
+
+-- the lines of a zone
+number-free : (g : Geometry) (h : Holder) → holderFits g h ≡ true → eqb (holderNumber h) 0 ≡ isFree h
+number-free g free f = refl
+number-free g (owned id) f =
+    let l : 1 ≤ id = leb-true 1 id (both (leb 1 id) (ltb id (g .ids * g .zones)) f .0) in
+    ne-eqb id 0 (λ e. omega arith)
+
+lines-none-touch : (g : Geometry) (z : ℕ) (wasFree : Bool) (es : List Entry) → every (idFits g) es ≡ true → apartLines wasFree (lines g z es) ≡ noneTouch wasFree es
+lines-none-touch g z wasFree [] f = refl
+lines-none-touch g z wasFree (e ∷ es) f =
+    let b = both (idFits g e) (every (idFits g) es) f in
+    rw (number-free g (e .holder) (b .0), lines-none-touch g z (isFree (e .holder)) es (b .1))
+
+pub zone-apart : (g : Geometry) (z n : ℕ) (es : List Entry) (l r : List ℕ) → every (idFits g) es ≡ true → n ≡ length es → l ≡ lines g z es ++ r
+    → apartLines false (take (3 * n) l) ≡ noneTouch false es
+zone-apart g z n es l r f e q =
+    let k : length (lines g z es) ≡ 3 * n = length-lines g z es ∙ ap (λ (x : ℕ). 3 * x) (sym e) in
+    ap (apartLines false) (ap (take (3 * n)) q ∙ take-at (lines g z es) r (3 * n) k) ∙ lines-none-touch g z false es f
