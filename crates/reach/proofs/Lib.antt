@@ -1,0 +1,14 @@
+pub mod Bounds
+pub mod SeekOn
+pub mod SweptOn
+pub mod OnePair
+pub mod FillRuns
+pub mod ApartCounts
+pub mod ObjectHeld
+pub mod AddressAnswers
+pub mod SweepAnswers
+pub mod Joined
+pub mod SweptLaws
+pub mod OneToOne
+pub mod DiscEnd
+pub mod Laws

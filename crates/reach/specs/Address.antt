@@ -1,0 +1,70 @@
+-- From a file's internal number and a position to a disc address (document 01, "Address", refusals 8, 10, 16). Assumes nothing.
+use mathlib.Core.Path.{_≡_}
+use mathlib.Core.Bool.{Bool, true, false, cond, _&&_}
+use mathlib.Core.List.{List, [], _∷_, _++_}
+use mathlib.Core.Option.{Option, none, some}
+use Prim.Native.Nat.{ℕ, zero, suc, _+_, _-_, _*_, _/_, _%_}
+use lib.Dec.{eqb, ltb}
+use Rattle.geometry.specs.declared.Geometry.{Geometry}
+use Rattle.geometry.specs.Record.{geometryOf}
+use Rattle.geometry.specs.Places.{idFrom}
+use Rattle.geometry.specs.Answers.{refusal}
+use Rattle.model.specs.Chain.{Pair}
+use Rattle.model.specs.Verdict.{MapRead, mapRead}
+use Rattle.model.specs.Verdict as read
+use Rattle.model.specs.Pieces.{piecesOfZones, objectPairs}
+use Rattle.reach.specs.declared.Location.{Location}
+use Rattle.reach.specs.declared.Reached.{Reached}
+use Rattle.reach.specs.declared.Reached.the-variants as reached
+
+-- "internal number n below 2^24: id = n div 256, low byte s. Start offset is 0 for s = 0, else (s-1)*S."
+abbrev pub idOf : ℕ → ℕ
+idOf n = n / 256
+
+abbrev pub startOffset : Geometry → ℕ → ℕ
+startOffset g n = cond (eqb (n % 256) 0) 0 ((n % 256 - 1) * g .sector)
+
+-- "The object's bytes are its pieces joined in order": byte i of pieces at `unit` bytes a map bit, or how far past their end it is
+pub data Sought : Type 0 where
+  at : ℕ → Sought
+  past : ℕ → Sought
+
+abbrev pub seek : ℕ → List Pair → ℕ → Sought
+seek unit [] i = past i
+seek unit (q ∷ qs) i = cond (ltb i (q .len * unit)) (at (q .start * unit + i)) (seek unit qs (i - q .len * unit))
+
+-- an address, or a refusal and its zone
+pub data AddressFound : Type 0 where
+  found : ℕ → AddressFound
+  refused : ℕ → ℕ → AddressFound
+
+-- 16: "start offset plus position not below the object's length"
+abbrev pub within : Sought → AddressFound
+within (at a) = found a
+within (past i) = refused 16 0
+
+-- 10: "id not on the map"
+abbrev pub inObject : Geometry → List Pair → ℕ → AddressFound
+inObject g [] i = refused 10 0
+inObject g (q ∷ qs) i = within (seek (g .unit) (q ∷ qs) i)
+
+-- 8: "id argument outside .. 2 (address) .. to P*nzones-1; n not below 2^24"
+abbrev pub numberFits : Geometry → ℕ → Bool
+numberFits g n = ltb n 16777216 && idFrom 2 g (idOf n)
+
+abbrev pub addressRead : Geometry → ℕ → ℕ → MapRead → AddressFound
+addressRead g n position (read.refused k z) = refused k z
+addressRead g n position (read.entries ess) =
+    cond (numberFits g n) (inObject g (objectPairs g (idOf n) (piecesOfZones g 0 ess)) (startOffset g n + position)) (refused 8 0)
+
+abbrev pub addressFound : List ℕ → ℕ → ℕ → AddressFound
+addressFound m n position = addressRead (geometryOf m) n position (mapRead m)
+
+abbrev pub addressAnswer : AddressFound → Reached
+addressAnswer (found a) = reached.At (record { address = a })
+addressAnswer (refused n z) = reached.Refused (refusal n z)
+
+-- the paper's numbers: refusal (0: accepted), zone told, address
+abbrev pub addressNumbers : Reached → ℕ × ℕ × ℕ
+addressNumbers (reached.At l) = (0, 0, l .address)
+addressNumbers (reached.Refused r) = (r .number, r .zone, 0)

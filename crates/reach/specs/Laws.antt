@@ -1,0 +1,40 @@
+-- What holds of addresses and sweeps on an accepted map (demand 2). Assumes nothing.
+use mathlib.Core.Path.{_≡_}
+use mathlib.Core.Bool.{Bool, true, false, cond}
+use mathlib.Core.List.{List, [], _∷_, _++_, map}
+use Prim.Native.Nat.{ℕ, zero, suc, _+_, _*_, _<_, _≤_}
+use lib.ListN.{length, getD}
+use Rattle.geometry.specs.declared.Geometry.{Geometry}
+use Rattle.geometry.specs.Record.{geometryOf}
+use Rattle.model.specs.Chain.{Pair, Entry}
+use Rattle.model.specs.Verdict.{entries, mapRead}
+use Rattle.model.specs.Pieces.{piecesOfZones, objectPairs}
+use Rattle.reach.specs.Address.{seek, at}
+use Rattle.reach.specs.Sweep.{covers, sweptBytes, coveredCount}
+
+-- the addresses of pieces joined in order, one after another
+abbrev pub addressesFrom : ℕ → ℕ → List ℕ
+addressesFrom a zero = []
+addressesFrom a (suc n) = a ∷ addressesFrom (suc a) n
+
+abbrev pub joined : ℕ → List Pair → List ℕ
+joined unit [] = []
+joined unit (q ∷ qs) = addressesFrom (q .start * unit) (q .len * unit) ++ joined unit qs
+
+pub record ReachLaws : Type 0 where
+  -- byte i of the joined pieces is found at its address, and nothing past their end
+  pub joined-found : (unit : ℕ) (qs : List Pair) (i : ℕ) → i < length (joined unit qs) → seek unit qs i ≡ at (getD (joined unit qs) i 0)
+  pub joined-ends : (unit : ℕ) (qs : List Pair) (i a : ℕ) → seek unit qs i ≡ at a → i < length (joined unit qs)
+  -- two positions of an object give different addresses
+  pub one-to-one : (m : List ℕ) (ess : List (List Entry)) → mapRead m ≡ entries ess → (id i j a : ℕ) → let g = geometryOf m in let qs = objectPairs g id (piecesOfZones g 0 ess) in
+      seek (g .unit) qs i ≡ at a → seek (g .unit) qs j ≡ at a → i ≡ j
+  -- an object other than 1 lies on the disc
+  pub on-disc : (m : List ℕ) (ess : List (List Entry)) → mapRead m ≡ entries ess → (id i a : ℕ) → (id ≡ 1 → ⊥) → let g = geometryOf m in
+      seek (g .unit) (objectPairs g id (piecesOfZones g 0 ess)) i ≡ at a → a < g .size
+  -- "writes the fill at each address of that class within the stretch, nowhere else"
+  pub swept-byte : (unit : ℕ) (qs : List Pair) (fill a : ℕ) (image : List ℕ) (i : ℕ) → i < length image
+      → getD (sweptBytes unit qs fill a image) i 0 ≡ cond (covers unit qs (a + i)) fill (getD image i 0)
+  pub swept-length : (unit : ℕ) (qs : List Pair) (fill a : ℕ) (image : List ℕ) → length (sweptBytes unit qs fill a image) ≡ length image
+  -- a stretch cut in two: the bytes are the same and the counts add up
+  pub cut-bytes : (unit : ℕ) (qs : List Pair) (fill a : ℕ) (x y : List ℕ) → sweptBytes unit qs fill a (x ++ y) ≡ sweptBytes unit qs fill a x ++ sweptBytes unit qs fill (a + length x) y
+  pub cut-count : (unit : ℕ) (qs : List Pair) (a n k : ℕ) → coveredCount unit qs a (n + k) ≡ coveredCount unit qs a n + coveredCount unit qs (a + n) k

@@ -1,0 +1,4 @@
+pub mod Address
+pub mod Sweep
+pub mod Parts
+pub mod Laws
