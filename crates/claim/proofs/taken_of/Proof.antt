@@ -1,0 +1,23 @@
+-- The definition's choice, by the test.
+use mathlib.Core.Path.{sym, ap}
+use mathlib.Core.Bool.{Bool, cond}
+use Prim.Native.Nat.{_+_}
+use borrow.Author.Tests.{lt-ltb, le-ltb}
+use borrow.Author.Needs.{needs}
+use Rattle.claim.proofs.taken_of.Statement.{statement}
+use Rattle.claim.proofs.taken_of.Tie as tie
+
+add-if1 : tie.Need-add-if1
+add-if1 c = search needs
+
+returns : tie.Need-returns
+returns c = let a = c .before .before .args in sym (ap (λ (b : Bool). cond b (a .hole) (a .need)) (lt-ltb (a .hole) (a .need + a .g .shortest) (c .if1 .taken)))
+
+cast-result : tie.Need-cast-result
+cast-result c = search needs
+
+returns-2 : tie.Need-returns-2
+returns-2 c = let a = c .before .before .args in sym (ap (λ (b : Bool). cond b (a .hole) (a .need)) (le-ltb (a .hole) (a .need + a .g .shortest) (c .if1 .left)))
+
+pub taken-of-spec : {M : Type 1} → statement M
+taken-of-spec = tie.close (tie.spec add-if1 returns cast-result returns-2)

@@ -1,0 +1,23 @@
+-- A piece that a claim gives: the place of its pair would be accepted ("Then as place"). Assumes nothing.
+use mathlib.Core.Path.{_≡_}
+use mathlib.Core.List.{List, [], _∷_}
+use Prim.Native.Nat.{ℕ}
+use Rattle.geometry.specs.declared.Geometry.{Geometry}
+use Rattle.model.specs.Chain.{Pair}
+use Rattle.model.specs.Pieces.{Piece, piecesOfZones}
+use Rattle.map.specs.Accepted.{AcceptedMap}
+use Rattle.calls.specs.Edits.{gives}
+use Rattle.calls.specs.Judge.{place, accepted, judge}
+use Rattle.runs.specs.Editable.{zonesOf, Editable}
+
+-- the pieces of a map
+abbrev pub piecesOn : Geometry → List ℕ → List Piece
+piecesOn g m = piecesOfZones g 0 (zonesOf m)
+
+abbrev pub pair : ℕ → ℕ → Pair
+pair start len = record { start = start; len = len }
+
+pub record PieceFits (m : List ℕ) (g : Geometry) (id start len : ℕ) : Type 0 where
+  pub map-accepted : AcceptedMap m g
+  pub editable : Editable m
+  pub fits : judge g (piecesOn g m) (place id (start ∷ len ∷ [])) ≡ accepted (gives id (pair start len ∷ []))

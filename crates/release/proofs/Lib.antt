@@ -1,0 +1,8 @@
+pub mod BlockPut
+pub mod WrittenBelow
+pub mod ZoneCounted
+pub mod TouchedZones
+pub mod Releasing
+pub mod ReleasedBytes
+pub mod ListedVerdict
+pub mod Answers
