@@ -1,0 +1,9 @@
+// Document 01's bench examples: one table of questions and answers (specs/Table), and one statement over it.
+ghost use mathlib.Core.Path.{_≡_};
+ghost use mathlib.Core.List.{map};
+ghost use Rattle.bench.specs.Table.{table, answered, expected};
+
+// Every row of the table is answered as document 01 has it, as a contract: the function does nothing.
+pub fn bench_examples()
+    ensures { λ _. ⌜ map answered table ≡ map expected table ⌝ }
+{}
