@@ -1,0 +1,49 @@
+-- Off the disc map, or compared with the end of the zone.
+use lib.Dec.{leb}
+use Prim.Native.Nat.{_≤_}
+use mathlib.Core.Path.{_≡_, ap, _∙_}
+use Rattle.geometry.specs.Places.{discBits, zoneOf, zoneEnd}
+use native.Mathlib.Omega.{arith}
+use Rattle.place.proofs.SmallTests.{off-disc, on-disc, zone-small, next-zone}
+use borrow.Author.Needs.{needs}
+use Rattle.place.proofs.in_one_zone.Statement.{statement}
+use Rattle.place.proofs.in_one_zone.Tie as tie
+
+disc-bits-requires : tie.Need-disc-bits-requires
+disc-bits-requires c κs = search needs
+
+returns : tie.Need-returns
+returns c = let a = c .before .before .args in off-disc (a .end) (discBits (a .g)) _ (omega (arith, c .if1 .taken, c .before .disc-bits .ensures))
+
+zone-of-requires : tie.Need-zone-of-requires
+zone-of-requires c κs = let s = c .before .before in (s .pre .0, omega (arith, s .pre .1, c .if1 .left, c .before .disc-bits .ensures))
+
+add-zone-start : tie.Need-add-zone-start
+add-zone-start c =
+    let s = c .before .before .before in
+    omega (arith, c .zone-of .ensures, zone-small (s .args .g) (s .args .start) (s .pre .0) (omega (arith, s .pre .1, c .before .if1 .left, c .before .before .disc-bits .ensures)))
+
+zone-start-requires : tie.Need-zone-start-requires
+zone-start-requires c κs =
+    let s = c .before .before .before in
+    (s .pre .0, omega (arith, c .zone-of .ensures, zone-small (s .args .g) (s .args .start) (s .pre .0) (omega (arith, s .pre .1, c .before .if1 .left, c .before .before .disc-bits .ensures))))
+
+returns-2 : tie.Need-returns-2
+returns-2 c =
+    let s = c .before .before .before .before in
+    let a = s .args in
+    let h : a .end ≤ discBits (a .g) = omega (arith, c .before .before .if1 .left, c .before .before .before .disc-bits .ensures) in
+    let e : c .zone-start .result ≡ zoneEnd (a .g) (zoneOf (a .g) (a .start)) =
+    c .zone-start .ensures ∙ next-zone (a .g) (c .before .zone-of .result) ∙ ap (zoneEnd (a .g)) (c .before .zone-of .ensures) in
+    ap (leb (a .end)) e ∙ on-disc (a .end) (discBits (a .g)) _ h
+
+pub in-one-zone-spec : {M : Type 1} → statement M
+in-one-zone-spec =
+    tie.close
+    (tie.spec
+    disc-bits-requires
+    returns
+    zone-of-requires
+    add-zone-start
+    zone-start-requires
+    returns-2)

@@ -1,0 +1,4 @@
+pub mod Placed
+pub mod Parts
+pub mod Merged
+pub mod Asked

@@ -1,0 +1,23 @@
+-- What a place answers and what it leaves in the map (document 01, "Place", refusals 8, 9, 11, 12, 13). Assumes nothing.
+use mathlib.Core.Path.{_≡_}
+use mathlib.Core.List.{List}
+use Prim.Native.Nat.{ℕ}
+use Rattle.geometry.specs.Answers.{refusal}
+use Rattle.calls.specs.Judge as call
+use Rattle.runs.specs.Steps.{Outcome, refused, done, outcome, step}
+use Rattle.place.specs.declared.Placed.{Placed}
+use Rattle.place.specs.declared.Placed.the-variants as placed
+
+abbrev pub answerOf : Outcome → Placed
+answerOf (refused n z) = placed.Refused (refusal n z)
+answerOf (done e s) = placed.Done
+
+-- the answer and every byte of the map
+pub record Places (m : List ℕ) (id : ℕ) (list : List ℕ) (r : Placed) (after : List ℕ) : Type 0 where
+  pub answer : r ≡ answerOf (outcome m (call.place id list))
+  pub bytes : after ≡ step m (call.place id list)
+
+-- the paper's numbers: refusal (0: accepted) and zone told
+abbrev pub placeNumbers : Placed → ℕ × ℕ
+placeNumbers placed.Done = (0, 0)
+placeNumbers (placed.Refused r) = (r .number, r .zone)
