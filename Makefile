@@ -1,8 +1,12 @@
-# make            proves the crates and lists the fragments of a map (MAP=file; map A by default)
+# make            proves the listing program and lists the fragments of a map (MAP=file; map A by default)
 # make test       the gate: layout, then every proof, every must-fail edit and every program
+# make library    the static library for C and Rust
+# make compare    many generated maps through the library and through the second program (SEEDS=n for more)
+# make cases      the stored cases of crate vectors, written again by the second program
 MAP ?= maps/a.map
+SEEDS ?= 40000
 
-.PHONY: all test
+.PHONY: all test library compare cases
 
 all:
 	rt check map_lines
@@ -11,3 +15,14 @@ all:
 test:
 	rt fmt --check
 	rt ci
+
+library:
+	rt staticlib shoalswift
+
+compare: library
+	cd second && cargo build --release --offline -p compare
+	SEEDS=$(SEEDS) second/target/release/compare
+
+cases:
+	cd second && cargo build --release --offline -p reference
+	second/target/release/cases crates/vectors

@@ -1,0 +1,447 @@
+// Runs stored cases through the library and prints what each call answers and changes, one line a case. The cases (`stdin`) and the
+// lines expected (`stdout`) are written by the second program, so the gate holds the two programs together. The form of a case is
+// described in second/README.md.
+use libc::STDOUT_FILENO;
+ghost use mathlib.Core.Path.{_≡_};
+ghost use Prim.Native.Nat.{_*_, _≤_};
+ghost use lib.ListN.{length};
+
+fn main() {
+    let mut k: usize = 0;
+    while k < 65536 {
+        if !next_case() {
+            return;
+        }
+        k += 1;
+    }
+}
+
+// Reads a case and runs it; answers whether there was one.
+fn next_case() -> bool {
+    let mut head = [0u8; 32];
+    let n = io::read_full(0, &mut head);
+    if n < 32 {
+        return false;
+    }
+    run_case(&head);
+    true
+}
+
+// Lends a case its buffers: what it starts with, and what the call works on.
+fn run_case(head: &[u8; 32]) {
+    let mut old_map = [0u8; 32768];
+    let mut map = [0u8; 32768];
+    let mut old_list = [0u32; 1024];
+    let mut list = [0u32; 1024];
+    let mut old_image = [0u8; 16384];
+    let mut image = [0u8; 16384];
+    cut_map(
+        head,
+        &mut old_map,
+        &mut map,
+        &mut old_list,
+        &mut list,
+        &mut old_image,
+        &mut image,
+    );
+}
+
+// Cuts the map to the length that the head names.
+fn cut_map(
+    head: &[u8; 32],
+    old_map: &mut [u8],
+    map: &mut [u8],
+    old_list: &mut [u32],
+    list: &mut [u32],
+    old_image: &mut [u8],
+    image: &mut [u8],
+) {
+    let n = at_most(number(head, 16), old_map.len());
+    let m = at_most(number(head, 16), map.len());
+    cut_list(
+        head,
+        &mut old_map[0..n],
+        &mut map[0..m],
+        old_list,
+        list,
+        old_image,
+        image,
+    );
+}
+
+// Cuts the list to the length that the head names.
+fn cut_list(
+    head: &[u8; 32],
+    old_map: &mut [u8],
+    map: &mut [u8],
+    old_list: &mut [u32],
+    list: &mut [u32],
+    old_image: &mut [u8],
+    image: &mut [u8],
+) {
+    let n = at_most(number(head, 20), old_list.len());
+    let m = at_most(number(head, 20), list.len());
+    cut_image(
+        head,
+        old_map,
+        map,
+        &mut old_list[0..n],
+        &mut list[0..m],
+        old_image,
+        image,
+    );
+}
+
+// Cuts the image to the length that the head names.
+fn cut_image(
+    head: &[u8; 32],
+    old_map: &mut [u8],
+    map: &mut [u8],
+    old_list: &mut [u32],
+    list: &mut [u32],
+    old_image: &mut [u8],
+    image: &mut [u8],
+) {
+    let n = at_most(number(head, 24), old_image.len());
+    let m = at_most(number(head, 24), image.len());
+    run_cut(
+        head,
+        old_map,
+        map,
+        old_list,
+        list,
+        &mut old_image[0..n],
+        &mut image[0..m],
+    );
+}
+
+fn run_cut(
+    head: &[u8; 32],
+    old_map: &mut [u8],
+    map: &mut [u8],
+    old_list: &mut [u32],
+    list: &mut [u32],
+    old_image: &mut [u8],
+    image: &mut [u8],
+) {
+    read_parts(old_map, map, old_list, list, old_image, image);
+    run_call(head, map, list, image);
+    print_list(head, old_list, list);
+    print_map(head, old_map, map);
+    print_image(head, old_image, image);
+    print_text(b"\n");
+}
+
+fn read_parts(
+    old_map: &mut [u8],
+    map: &mut [u8],
+    old_list: &mut [u32],
+    list: &mut [u32],
+    old_image: &mut [u8],
+    image: &mut [u8],
+) {
+    read_bytes(old_map, map);
+    read_list(old_list, list);
+    read_bytes(old_image, image);
+}
+
+// The entries that changed, of a call that may write the list.
+fn print_list(head: &[u8; 32], old: &[u32], new: &[u32]) {
+    if writes_list(head[0]) {
+        print_text(b" list");
+        print_changed_entries(old, new);
+    }
+}
+
+// The bytes that changed, of a call that may write the map.
+fn print_map(head: &[u8; 32], old: &[u8], new: &[u8]) {
+    if writes_map(head[0]) {
+        print_text(b" map");
+        print_changed_bytes(old, new);
+    }
+}
+
+// The runs that changed, of a call that may write the image.
+fn print_image(head: &[u8; 32], old: &[u8], new: &[u8]) {
+    if writes_image(head[0]) {
+        print_text(b" image");
+        print_changed_runs(old, new);
+    }
+}
+
+fn writes_list(call: u8) -> bool {
+    match call {
+        2 | 3 | 7 => true,
+        _ => false,
+    }
+}
+
+fn writes_map(call: u8) -> bool {
+    match call {
+        7 | 8 | 9 => true,
+        _ => false,
+    }
+}
+
+fn writes_image(call: u8) -> bool {
+    match call {
+        5 | 6 => true,
+        _ => false,
+    }
+}
+
+// Runs the call that the head names, and prints its name, its refusal number, the zone told and its values.
+fn run_call(head: &[u8; 32], map: &mut [u8], list: &mut [u32], image: &mut [u8]) {
+    let call = head[0];
+    match call {
+        1 => run_check(map),
+        2 => run_list(head, map, list),
+        3 => run_free(map, list),
+        4 => run_address(head, map),
+        5 => run_sweep_object(head, map, image),
+        6 => run_sweep_free(head, map, image),
+        7 => run_release(head, map, list),
+        8 => run_place(head, map, list),
+        9 => run_claim(head, map),
+        _ => print_text(b"unknown"),
+    }
+}
+
+fn run_check(map: &[u8]) {
+    let mut zone = 0;
+    let r = shoalswift::shoalswift_check(map, &mut zone);
+    print_text(b"check");
+    print_answer(r, zone);
+}
+
+fn run_list(head: &[u8; 32], map: &[u8], list: &mut [u32]) {
+    let mut zone = 0;
+    let mut pairs = 0;
+    let r = shoalswift::shoalswift_list(map, word(head, 4), list, &mut pairs, &mut zone);
+    print_text(b"list");
+    print_answer(r, zone);
+    print_value(pairs);
+}
+
+fn run_free(map: &[u8], list: &mut [u32]) {
+    let mut zone = 0;
+    let mut pairs = 0;
+    let r = shoalswift::shoalswift_free(map, list, &mut pairs, &mut zone);
+    print_text(b"free");
+    print_answer(r, zone);
+    print_value(pairs);
+}
+
+fn run_address(head: &[u8; 32], map: &[u8]) {
+    let mut zone = 0;
+    let mut address = 0;
+    let r = shoalswift::shoalswift_address(
+        map,
+        word(head, 4),
+        long(head, 8),
+        &mut address,
+        &mut zone,
+    );
+    print_text(b"address");
+    print_answer(r, zone);
+    print_value(address);
+}
+
+fn run_sweep_object(head: &[u8; 32], map: &[u8], image: &mut [u8]) {
+    let mut zone = 0;
+    let mut count = 0;
+    let r = shoalswift::shoalswift_sweep_object(
+        map,
+        image,
+        long(head, 8),
+        head[1],
+        word(head, 4),
+        &mut count,
+        &mut zone,
+    );
+    print_text(b"sweep_object");
+    print_answer(r, zone);
+    print_value(count);
+}
+
+fn run_sweep_free(head: &[u8; 32], map: &[u8], image: &mut [u8]) {
+    let mut zone = 0;
+    let mut count = 0;
+    let r = shoalswift::shoalswift_sweep_free(
+        map,
+        image,
+        long(head, 8),
+        head[1],
+        &mut count,
+        &mut zone,
+    );
+    print_text(b"sweep_free");
+    print_answer(r, zone);
+    print_value(count);
+}
+
+fn run_release(head: &[u8; 32], map: &mut [u8], list: &mut [u32]) {
+    let mut zone = 0;
+    let mut pairs = 0;
+    let r = shoalswift::shoalswift_release(map, word(head, 4), list, &mut pairs, &mut zone);
+    print_text(b"release");
+    print_answer(r, zone);
+    print_value(pairs);
+}
+
+fn run_place(head: &[u8; 32], map: &mut [u8], list: &[u32]) {
+    let mut zone = 0;
+    let r = shoalswift::shoalswift_place(map, word(head, 4), list, &mut zone);
+    print_text(b"place");
+    print_answer(r, zone);
+}
+
+fn run_claim(head: &[u8; 32], map: &mut [u8]) {
+    let mut zone = 0;
+    let mut id = 0;
+    let mut start = 0;
+    let mut len = 0;
+    let r = shoalswift::shoalswift_claim(
+        map,
+        long(head, 8),
+        &mut id,
+        &mut start,
+        &mut len,
+        &mut zone,
+    );
+    print_text(b"claim");
+    print_answer(r, zone);
+    print_value(id as u64);
+    print_value(start as u64);
+    print_value(len as u64);
+}
+
+fn print_answer(number: u32, zone: u32) {
+    print_value(number as u64);
+    print_value(zone as u64);
+}
+
+fn print_value(x: u64) {
+    print_text(b" ");
+    io::print_decimal(STDOUT_FILENO, x);
+}
+
+fn print_text(s: &[u8]) {
+    io::write_all(STDOUT_FILENO, s);
+}
+
+// ` INDEX=VALUE` of an element that changed.
+fn print_change(i: usize, x: usize) {
+    print_value(i as u64);
+    print_text(b"=");
+    io::print_decimal(STDOUT_FILENO, x as u64);
+}
+
+// An entry of a list as a number to print.
+fn entry(x: u32) -> usize {
+    x as usize
+}
+
+fn print_changed_entries(old: &[u32], new: &[u32]) {
+    let mut i = 0;
+    while i < new.len() && i < old.len() {
+        if old[i] != new[i] {
+            print_change(i, entry(new[i]));
+        }
+        i += 1;
+    }
+}
+
+fn print_changed_bytes(old: &[u8], new: &[u8]) {
+    let mut i = 0;
+    while i < new.len() && i < old.len() {
+        if old[i] != new[i] {
+            print_change(i, bits::wide(new[i]));
+        }
+        i += 1;
+    }
+}
+
+// ` FROM..TO` of each run of bytes that changed.
+fn print_changed_runs(old: &[u8], new: &[u8]) {
+    let mut inside = false;
+    let mut i = 0;
+    while i < new.len() && i < old.len() {
+        let changed = old[i] != new[i];
+        print_edge(inside, changed, i);
+        inside = changed;
+        i += 1;
+    }
+    print_edge(inside, false, i);
+}
+
+// Where a run starts or ends.
+fn print_edge(inside: bool, changed: bool, i: usize) {
+    if changed {
+        if !inside {
+            print_value(i as u64);
+        }
+        return;
+    }
+    if inside {
+        print_text(b"..");
+        io::print_decimal(STDOUT_FILENO, i as u64);
+    }
+}
+
+// Reads bytes, twice over.
+fn read_bytes(old: &mut [u8], new: &mut [u8]) {
+    io::read_full(0, old);
+    let mut i = 0;
+    while i < new.len() && i < old.len() {
+        new[i] = old[i];
+        i += 1;
+    }
+}
+
+// Reads the entries of a list, lowest byte first, twice over.
+fn read_list(old: &mut [u32], new: &mut [u32]) {
+    let mut i = 0;
+    while i < new.len() && i < old.len() {
+        let x = read_entry();
+        old[i] = x;
+        new[i] = x;
+        i += 1;
+    }
+}
+
+fn read_entry() -> u32 {
+    let mut bytes = [0u8; 32];
+    io::read_full(0, &mut bytes[..4]);
+    word(&bytes, 0)
+}
+
+fn at_most(x: usize, most: usize) -> usize
+    ensures { λ r. ⌜ r ≤ most ⌝ }
+{
+    if x < most {
+        return x;
+    }
+    most
+}
+
+fn number(head: &[u8; 32], at: usize) -> usize
+    requires { ⌜ at ≤ 28 ⌝ }
+{
+    word(head, at) as usize
+}
+
+// Four bytes at a place, lowest first.
+fn word(head: &[u8; 32], at: usize) -> u32
+    requires { ⌜ at ≤ 28 ⌝ }
+{
+    let high = bits::wide(head[at + 2]) * 65536 + bits::wide(head[at + 3]) * 16777216;
+    (bits::wide(head[at]) + bits::wide(head[at + 1]) * 256 + high) as u32
+}
+
+// Eight bytes at a place, lowest first.
+fn long(head: &[u8; 32], at: usize) -> u64
+    requires { ⌜ at ≤ 24 ⌝ }
+{
+    word(head, at) as u64 + word(head, at + 4) as u64 * 4294967296
+}

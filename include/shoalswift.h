@@ -1,0 +1,70 @@
+/* Shoalswift: maps of discs in Acorn's E format.
+ *
+ * Every function answers a refusal number, 0 where the call is accepted. *zone and every other number handed in by pointer is
+ * always written: 0 where the call is refused, or where there is nothing to tell. A refused call changes no byte of map, image or
+ * list. No function keeps a pointer, allocates, or has state; calls on different maps may run at the same time.
+ *
+ * What a caller owes: each pointer with a length is valid for that many elements (it may be any non-null, aligned pointer where the
+ * length is 0), each pointer to a number is valid, and nothing that is written overlaps anything else that is handed in. There
+ * is nothing else to test beforehand: any bytes and any numbers may be handed in.
+ *
+ * A map is the blocks of all zones, zone 0 first. Lists are pairs of 32-bit numbers: disc bit, length in map bits.
+ *
+ *  1  map shorter than 64 bytes, or not nzones*S         10  id not on the map
+ *  2  record outside its ranges                          11  id already on the map (place)
+ *  3  a zone check differs                               12  list empty, odd, out of object order, overlapping, across zones, off
+ *  4  cross checks don't give 255                            the map, not in clusters or too short; claim of 0 bytes
+ *  5  FreeLink's top bit clear, or a link that lands     13  a listed bit isn't free, or a leftover of 1 to m-1 free bits
+ *     on no fragment start                               14  claim: no unused id (cannot arise)
+ *  6  a fragment without room, closing bit or whole      15  claim: no hole long enough
+ *     clusters                                           16  start offset plus position past the object; stretch past the disc
+ *  7  id, object 2 or disc-end rule broken               17  too few entries for the pairs
+ *  8  id or internal number outside its range
+ *  9  edits: two free fragments of a zone touch          3, 5, 6, 7 and 9 tell the lowest such zone, all others zone 0.
+ */
+#ifndef SHOALSWIFT_H
+#define SHOALSWIFT_H
+
+#include <stddef.h>
+#include <stdint.h>
+
+#ifdef __cplusplus
+extern "C" {
+#endif
+
+/* Checks a map: 1 to 7. */
+uint32_t shoalswift_check(const uint8_t *map, size_t map_len, uint32_t *zone);
+
+/* Writes an object's pieces in object order, a pair for each fragment; *pairs is their number. Further: 8, 10, 17. */
+uint32_t shoalswift_list(const uint8_t *map, size_t map_len, uint32_t id, uint32_t *list, size_t list_len, uint64_t *pairs,
+                         uint32_t *zone);
+
+/* Writes the free spans, ascending, a pair for each free fragment; *pairs is their number. Further: 17. */
+uint32_t shoalswift_free(const uint8_t *map, size_t map_len, uint32_t *list, size_t list_len, uint64_t *pairs, uint32_t *zone);
+
+/* The disc address of a byte of the file with internal number n. Further: 8, 10, 16. */
+uint32_t shoalswift_address(const uint8_t *map, size_t map_len, uint32_t n, uint64_t position, uint64_t *address, uint32_t *zone);
+
+/* Writes the fill at each address of an object, or of free space, within a stretch of image that starts at disc address first;
+ * *count is the number of these addresses. Further: 8 and 10 (object), 16. */
+uint32_t shoalswift_sweep_object(const uint8_t *map, size_t map_len, uint8_t *image, size_t image_len, uint64_t first, uint8_t fill,
+                                 uint32_t id, uint64_t *count, uint32_t *zone);
+uint32_t shoalswift_sweep_free(const uint8_t *map, size_t map_len, uint8_t *image, size_t image_len, uint64_t first, uint8_t fill,
+                               uint64_t *count, uint32_t *zone);
+
+/* Frees an ordinary object's fragments and writes its pieces in object order; *pairs is their number. Further: 8, 9, 10, 17. */
+uint32_t shoalswift_release(uint8_t *map, size_t map_len, uint32_t id, uint32_t *list, size_t list_len, uint64_t *pairs,
+                            uint32_t *zone);
+
+/* Gives the listed pieces to an absent id. Further: 8, 9, 11, 12, 13. */
+uint32_t shoalswift_place(uint8_t *map, size_t map_len, uint32_t id, const uint32_t *list, size_t list_len, uint32_t *zone);
+
+/* Gives the first hole that is long enough for size bytes to the lowest unused id. Further: 9, 12 (0 bytes), 15. */
+uint32_t shoalswift_claim(uint8_t *map, size_t map_len, uint64_t size, uint32_t *id, uint32_t *start, uint32_t *length,
+                          uint32_t *zone);
+
+#ifdef __cplusplus
+}
+#endif
+
+#endif

@@ -1,0 +1,18 @@
+//! Links the product's static library. Its folder comes from SHOALSWIFT_LIB,
+//! or is the product's own target folder.
+
+use std::env;
+use std::path::Path;
+
+fn main() {
+    println!("cargo:rerun-if-env-changed=SHOALSWIFT_LIB");
+    let manifest = env::var("CARGO_MANIFEST_DIR").expect("cargo names the manifest's folder");
+    let folder = env::var("SHOALSWIFT_LIB").unwrap_or("../../target/staticlib".to_string());
+    // A relative folder is taken from the manifest.
+    let library = Path::new(&manifest).join(folder).join("libshoalswift.a");
+    println!("cargo:rerun-if-changed={}", library.display());
+    // The library may bring a panic handler of its own. It comes after the
+    // standard library, whose handler is then the one used.
+    println!("cargo:rustc-link-arg=-Wl,--allow-multiple-definition");
+    println!("cargo:rustc-link-arg={}", library.display());
+}

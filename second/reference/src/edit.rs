@@ -1,0 +1,260 @@
+//! The edits: release, place and claim (document 01, "The calls", and
+//! "Zone check and cross check" for the bytes they write).
+
+use crate::geometry::Geometry;
+use crate::map::{
+    block_mut, check, write_fragments, zone_check_by_words, CheckedMap, Fragment, Owner,
+};
+use crate::read::{hand_out, present};
+use crate::Refusal;
+
+/// What an accepted claim answers.
+#[derive(Clone, Copy, Debug, PartialEq, Eq)]
+pub struct Claimed {
+    pub id: u32,
+    pub start: u32,
+    pub length: u32,
+}
+
+/// Removes all fragments of an object; answers how many pairs were listed.
+pub fn release(map: &mut [u8], id: u32, list: &mut [u32]) -> Result<u64, Refusal> {
+    let checked = check(map)?;
+    checked.geometry.id_from(3, id)?;
+    no_free_touch(&checked)?;
+    let pieces = present(&checked, id)?;
+    let pairs = hand_out(&checked, &pieces, list)?;
+
+    let touched = zones_touched(&pieces);
+    for zone in &touched {
+        let mut owned = owned_fragments(&checked.zones[*zone]);
+        owned.retain(|fragment| fragment.owner != Owner::Object(id));
+        rewrite_zone(map, &checked.geometry, *zone, &owned);
+    }
+    finish(map, &checked.geometry, &touched);
+    Ok(pairs)
+}
+
+/// Gives the listed pieces to an absent id.
+pub fn place(map: &mut [u8], id: u32, list: &[u32]) -> Result<(), Refusal> {
+    let checked = check(map)?;
+    checked.geometry.id_from(3, id)?;
+    no_free_touch(&checked)?;
+    if !checked.object(id)?.is_empty() {
+        return Err(Refusal::plain(11));
+    }
+    let pieces = read_pieces(&checked.geometry, id, list)?;
+    take(map, &checked, &pieces)
+}
+
+/// Gives room for a size in bytes to the lowest unused id.
+pub fn claim(map: &mut [u8], size: u64) -> Result<Claimed, Refusal> {
+    let checked = check(map)?;
+    no_free_touch(&checked)?;
+    if size == 0 {
+        return Err(Refusal::plain(12));
+    }
+    let geometry = &checked.geometry;
+
+    let mut id = 3;
+    while id < geometry.ids() as u32 && !checked.object(id)?.is_empty() {
+        id += 1;
+    }
+    if id as usize == geometry.ids() {
+        return Err(Refusal::plain(14));
+    }
+
+    // The size rounded up to clusters, in map bits, and at least m.
+    let cluster_bytes = geometry.cluster_bits as u128 * geometry.bytes_per_map_bit as u128;
+    let clusters = (size as u128 + cluster_bytes - 1) / cluster_bytes;
+    let rounded = clusters * geometry.cluster_bits as u128;
+    let need = rounded.max(geometry.shortest_fragment as u128);
+
+    let holes = checked.free();
+    let hole = match holes.iter().find(|hole| hole.length as u128 >= need) {
+        Some(hole) => hole,
+        None => return Err(Refusal::plain(15)),
+    };
+    // No longer than the hole, so it fits.
+    let need = need as usize;
+    let remaining = hole.length - need;
+    let length = if remaining >= 1 && remaining < geometry.shortest_fragment {
+        hole.length
+    } else {
+        need
+    };
+    let piece = Fragment {
+        zone: hole.zone,
+        start: hole.start,
+        length,
+        owner: Owner::Object(id),
+    };
+    take(map, &checked, &[piece])?;
+    let (start, length) = checked.pair(&piece);
+    Ok(Claimed { id, start, length })
+}
+
+/// Refusal 9: two free fragments of a zone touch.
+fn no_free_touch(checked: &CheckedMap) -> Result<(), Refusal> {
+    for (zone, fragments) in checked.zones.iter().enumerate() {
+        for neighbours in fragments.windows(2) {
+            if neighbours[0].owner == Owner::Free && neighbours[1].owner == Owner::Free {
+                return Err(Refusal::in_zone(9, zone));
+            }
+        }
+    }
+    Ok(())
+}
+
+/// Reads the list of a place, which must be right in itself for the id,
+/// whatever is on the map (refusal 12).
+fn read_pieces(geometry: &Geometry, id: u32, list: &[u32]) -> Result<Vec<Fragment>, Refusal> {
+    let refused = Err(Refusal::plain(12));
+    if list.is_empty() || list.len() % 2 != 0 {
+        return refused;
+    }
+    let mut pieces: Vec<Fragment> = Vec::new();
+    for pair in list.chunks(2) {
+        let start = pair[0] as usize;
+        let length = pair[1] as usize;
+        if start % geometry.cluster_bits != 0 || length % geometry.cluster_bits != 0 {
+            return refused;
+        }
+        if length < geometry.shortest_fragment {
+            return refused;
+        }
+        if start + length > geometry.disc_bits() {
+            return refused;
+        }
+        let zone = geometry.zone_of(start);
+        if zone != geometry.zone_of(start + length - 1) {
+            return refused;
+        }
+        pieces.push(Fragment {
+            zone,
+            start: geometry.block_bit(start),
+            length,
+            owner: Owner::Object(id),
+        });
+    }
+
+    // Object order: by the place of the zone in the order, then ascending and
+    // not overlapping in the zone.
+    let zones = geometry.zones_in_object_order(id)?;
+    let place_of = |zone: usize| zones.iter().position(|z| *z == zone);
+    for neighbours in pieces.windows(2) {
+        let (before, after) = (neighbours[0], neighbours[1]);
+        let in_order = if before.zone == after.zone {
+            before.end() <= after.start
+        } else {
+            place_of(before.zone) < place_of(after.zone)
+        };
+        if !in_order {
+            return refused;
+        }
+    }
+    Ok(pieces)
+}
+
+/// Takes the pieces out of the free bits (refusal 13) and writes them.
+fn take(map: &mut [u8], checked: &CheckedMap, pieces: &[Fragment]) -> Result<(), Refusal> {
+    let geometry = &checked.geometry;
+    let touched = zones_touched(pieces);
+    for zone in &touched {
+        let mut is_free = vec![false; geometry.end_block_bit()];
+        for fragment in &checked.zones[*zone] {
+            if fragment.owner == Owner::Free {
+                is_free[fragment.start..fragment.end()].fill(true);
+            }
+        }
+        for piece in pieces.iter().filter(|piece| piece.zone == *zone) {
+            for block_bit in piece.start..piece.end() {
+                if !is_free[block_bit] {
+                    return Err(Refusal::plain(13));
+                }
+                is_free[block_bit] = false;
+            }
+        }
+        // What is left over between owned bits is nothing or at least m bits.
+        for run in is_free.split(|free| !free) {
+            if !run.is_empty() && run.len() < geometry.shortest_fragment {
+                return Err(Refusal::plain(13));
+            }
+        }
+    }
+
+    for zone in &touched {
+        let mut owned = owned_fragments(&checked.zones[*zone]);
+        owned.extend(pieces.iter().filter(|piece| piece.zone == *zone));
+        owned.sort_by_key(|fragment| fragment.start);
+        rewrite_zone(map, geometry, *zone, &owned);
+    }
+    finish(map, geometry, &touched);
+    Ok(())
+}
+
+/// An edit touches the zones in which its pairs lie; ascending.
+fn zones_touched(pieces: &[Fragment]) -> Vec<usize> {
+    let mut zones: Vec<usize> = pieces.iter().map(|piece| piece.zone).collect();
+    zones.sort();
+    zones.dedup();
+    zones
+}
+
+/// The fragments of a zone that are not free.
+fn owned_fragments(fragments: &[Fragment]) -> Vec<Fragment> {
+    let mut owned = fragments.to_vec();
+    owned.retain(|fragment| fragment.owner != Owner::Free);
+    owned
+}
+
+/// Writes a zone with these owned fragments; each gap between them becomes
+/// one free fragment, so that no two free ones touch.
+fn rewrite_zone(map: &mut [u8], geometry: &Geometry, zone: usize, owned: &[Fragment]) {
+    let mut fragments = Vec::new();
+    let mut position = geometry.first_block_bit(zone);
+    for fragment in owned {
+        if position < fragment.start {
+            fragments.push(gap(zone, position, fragment.start));
+        }
+        fragments.push(*fragment);
+        position = fragment.end();
+    }
+    if position < geometry.end_block_bit() {
+        fragments.push(gap(zone, position, geometry.end_block_bit()));
+    }
+    let block = block_mut(map, geometry.sector_size, zone);
+    write_fragments(geometry, block, &fragments);
+}
+
+fn gap(zone: usize, from: usize, to: usize) -> Fragment {
+    Fragment {
+        zone,
+        start: from,
+        length: to - from,
+        owner: Owner::Free,
+    }
+}
+
+/// The cross check change of each touched zone, in ascending order: none for
+/// one zone; 1 each for an even number; 1, 2, 3 and then 1 for an odd one.
+pub fn cross_check_changes(touched: usize) -> Vec<u8> {
+    if touched == 1 {
+        return vec![0];
+    }
+    let mut changes = vec![1; touched];
+    if touched % 2 == 1 {
+        changes[1] = 2;
+        changes[2] = 3;
+    }
+    changes
+}
+
+/// Changes the cross checks and writes the zone checks of the touched zones.
+fn finish(map: &mut [u8], geometry: &Geometry, touched: &[usize]) {
+    let changes = cross_check_changes(touched.len());
+    for (zone, change) in touched.iter().zip(changes) {
+        let block = block_mut(map, geometry.sector_size, *zone);
+        block[3] ^= change;
+        block[0] = zone_check_by_words(block);
+    }
+}

@@ -1,0 +1,1222 @@
+//! A deterministic generator: maps over all geometries of document 01, damage
+//! to them, arguments for each call, and runs of calls. A seed decides all.
+
+use crate::case::{Call, Case, Outcome, CALLS};
+use crate::geometry::{DiscRecord, Geometry};
+use crate::map::{
+    block_mut, check, set_bit, set_number, write_fragments, zone_check_by_words, CheckedMap,
+    Fragment, Owner,
+};
+
+/// A small generator of numbers (splitmix64).
+pub struct Rng {
+    state: u64,
+}
+
+impl Rng {
+    pub fn new(seed: u64) -> Rng {
+        Rng { state: seed }
+    }
+
+    pub fn word(&mut self) -> u64 {
+        self.state = self.state.wrapping_add(0x9E37_79B9_7F4A_7C15);
+        let mut z = self.state;
+        z = (z ^ (z >> 30)).wrapping_mul(0xBF58_476D_1CE4_E5B9);
+        z = (z ^ (z >> 27)).wrapping_mul(0x94D0_49BB_1331_11EB);
+        z ^ (z >> 31)
+    }
+
+    /// A number below `limit`, which is above 0.
+    pub fn below(&mut self, limit: usize) -> usize {
+        (self.word() % limit as u64) as usize
+    }
+
+    /// A number from `low` to `high`, both included.
+    pub fn between(&mut self, low: usize, high: usize) -> usize {
+        low + self.below(high - low + 1)
+    }
+
+    pub fn percent(&mut self, percent: usize) -> bool {
+        self.below(100) < percent
+    }
+
+    pub fn pick<T: Copy>(&mut self, from: &[T]) -> T {
+        from[self.below(from.len())]
+    }
+
+    pub fn byte(&mut self) -> u8 {
+        self.word() as u8
+    }
+}
+
+/// The largest map, list and image stretch wanted.
+#[derive(Clone, Copy, Debug)]
+pub struct Sizes {
+    pub map: usize,
+    pub list: usize,
+    pub image: usize,
+}
+
+// ---------------------------------------------------------------- valid maps
+
+/// A disc record inside its ranges, on which a valid map can stand.
+pub fn disc_record(rng: &mut Rng, largest_map: usize) -> DiscRecord {
+    let log2secsize = rng.pick(&[8usize, 8, 8, 9, 10]);
+    let idlen = rng.between(log2secsize + 3, 15);
+    let log2bpmb = rng.between(7, 12);
+    let sector_size = 1usize << log2secsize;
+    let k = if log2bpmb < log2secsize {
+        1 << (log2secsize - log2bpmb)
+    } else {
+        1
+    };
+    let m = (idlen + 1).div_ceil(k) * k;
+
+    // Z: the largest, near it, near the smallest, anywhere, or one that makes
+    // P a power of two, so that P*nzones can be 2^idlen.
+    let largest = 8 * sector_size - 32;
+    let smallest = 480 + m;
+    let mut power_of_two = false;
+    let mut zone_bits = match rng.below(10) {
+        0..=4 => largest,
+        5 | 6 => largest - k * rng.below(60),
+        7 => smallest + k * rng.below(4),
+        8 => smallest + k * rng.below((largest - smallest) / k + 1),
+        _ => {
+            power_of_two = true;
+            (rng.pick(&[32, 64, 128, 256, 512]) * (idlen + 1)).div_ceil(k) * k
+        }
+    };
+    if zone_bits < smallest || zone_bits > largest {
+        power_of_two = false;
+        zone_bits = largest;
+    }
+    let ids_per_zone = zone_bits / (idlen + 1);
+
+    let by_ids = (1 << idlen) / ids_per_zone;
+    let most = by_ids.min(127).min(largest_map / sector_size).max(1);
+    let nzones = if power_of_two && by_ids <= most {
+        by_ids
+    } else {
+        match rng.below(20) {
+            0..=5 => 1,
+            6..=13 => rng.between(2, 4),
+            14..=17 => rng.between(5, 12),
+            _ => rng.between(1, most),
+        }
+        .min(most)
+    };
+
+    // Where the disc ends: the middle zone's first m bits must be on it.
+    let disc_bits = nzones * zone_bits - 480;
+    let zone_start = |zone: usize| (zone * zone_bits).saturating_sub(480);
+    let middle = nzones / 2;
+    let earliest = zone_start(middle) + m;
+    let mut end = match rng.below(10) {
+        0..=3 => disc_bits,
+        4 | 5 => rng.between(earliest, disc_bits),
+        6 => zone_start(rng.between(middle + 1, nzones)),
+        7 => disc_bits.saturating_sub(k * rng.below(m / k + 3)),
+        8 => earliest + k * rng.below(m / k + 3),
+        _ => (zone_start(rng.between(middle + 1, nzones)) + m / k * k)
+            .saturating_sub(k * rng.below(2 * m / k + 1)),
+    };
+    end = end.clamp(earliest, disc_bits) / k * k;
+    // If the disc ends in the middle zone, object 2 and the overhang need m
+    // bits each.
+    let middle_end = zone_start(middle + 1);
+    if end < middle_end && end.min(middle_end - m) < earliest {
+        end = disc_bits;
+    }
+    let bytes_per_map_bit = 1usize << log2bpmb;
+    let mut disc_size = end * bytes_per_map_bit;
+    if bytes_per_map_bit > sector_size && end < disc_bits {
+        disc_size += sector_size * rng.below(bytes_per_map_bit / sector_size);
+    }
+
+    DiscRecord {
+        log2secsize: log2secsize as u8,
+        idlen: idlen as u8,
+        log2bpmb: log2bpmb as u8,
+        nzones: nzones as u8,
+        zone_spare: (8 * sector_size - zone_bits) as u16,
+        disc_size: disc_size as u32,
+    }
+}
+
+/// Builds a map from owners and lengths, zone by zone; carried bytes are 0,
+/// the cross check is 255 in zone 0 and 0 elsewhere.
+pub fn build(record: &DiscRecord, zones: &[Vec<(Owner, usize)>]) -> Vec<u8> {
+    let geometry = Geometry::accept(record).expect("a record inside its ranges");
+    let mut map = vec![0; geometry.nzones * geometry.sector_size];
+    record.write(&mut map);
+    assert_eq!(zones.len(), geometry.nzones);
+    for (zone, parts) in zones.iter().enumerate() {
+        let mut start = geometry.first_block_bit(zone);
+        let mut fragments = Vec::new();
+        for (owner, length) in parts {
+            fragments.push(Fragment {
+                zone,
+                start,
+                length: *length,
+                owner: *owner,
+            });
+            start += length;
+        }
+        assert_eq!(start, geometry.end_block_bit(), "zone {zone} not filled");
+        let block = block_mut(&mut map, geometry.sector_size, zone);
+        write_fragments(&geometry, block, &fragments);
+    }
+    map[3] = 255;
+    repair_zone_checks(&mut map, geometry.sector_size);
+    map
+}
+
+/// Writes the right zone check into every whole block.
+pub fn repair_zone_checks(map: &mut [u8], sector_size: usize) {
+    for block in map.chunks_exact_mut(sector_size) {
+        block[0] = zone_check_by_words(block);
+    }
+}
+
+/// Changes the last block's cross check so that all together give 255.
+pub fn repair_cross_checks(map: &mut [u8], sector_size: usize) {
+    let mut all = 0;
+    for block in map.chunks_exact(sector_size) {
+        all ^= block[3];
+    }
+    if let Some(block) = map.chunks_exact_mut(sector_size).last() {
+        block[3] ^= all ^ 255;
+    }
+}
+
+fn repair(map: &mut [u8], sector_size: usize) {
+    repair_cross_checks(map, sector_size);
+    repair_zone_checks(map, sector_size);
+}
+
+/// Lengths that fill `total` bits, each a multiple of k and at least m.
+fn lengths(rng: &mut Rng, geometry: &Geometry, total: usize) -> Vec<usize> {
+    let (k, m) = (geometry.cluster_bits, geometry.shortest_fragment);
+    let style = rng.below(4);
+    let mut lengths = Vec::new();
+    let mut left = total;
+    while left > 0 {
+        let mut length = match style {
+            0 => m + k * rng.below(4),
+            1 => m + k * rng.below(60),
+            2 if rng.percent(50) => m,
+            2 => m + k * rng.below(400),
+            _ => m + k * rng.below(total / k),
+        };
+        if length > left || left - length < m {
+            length = left;
+        }
+        lengths.push(length);
+        left -= length;
+    }
+    lengths
+}
+
+/// A valid map on a record.
+pub fn valid_map(rng: &mut Rng, record: &DiscRecord) -> Vec<u8> {
+    let geometry = Geometry::accept(record).expect("a record inside its ranges");
+    let (k, m) = (geometry.cluster_bits, geometry.shortest_fragment);
+    let last_id = geometry.ids() - 1;
+
+    // Carried fields and bits after a zone's end: noise in half of the maps.
+    let mut map = vec![0; geometry.nzones * geometry.sector_size];
+    if rng.percent(50) {
+        map.iter_mut().for_each(|byte| *byte = rng.byte());
+    }
+    record.write(&mut map);
+
+    // A few ids come again and again, so that objects have several pieces.
+    let mut pool = Vec::new();
+    for _ in 0..rng.between(1, 6) {
+        let id = match rng.below(6) {
+            0 => 3,
+            1 => last_id,
+            2 => geometry.ids_per_zone * rng.below(geometry.nzones),
+            3 => geometry.ids_per_zone * rng.between(1, geometry.nzones) - 1,
+            _ => rng.between(3, last_id),
+        };
+        pool.push(id.max(3));
+    }
+    let free_percent = rng.pick(&[0, 20, 40, 40, 60, 60, 80, 100]);
+    let free_may_touch = rng.percent(6);
+
+    for zone in 0..geometry.nzones {
+        let low = geometry.first_block_bit(zone);
+        let high = geometry.end_block_bit();
+        // The overhang starts at or before the disc's end.
+        let disc_end = geometry.disc_end_bit();
+        let overhang = if disc_end >= geometry.disc_bit(zone, high) {
+            high
+        } else if disc_end <= geometry.disc_bit(zone, low) {
+            low
+        } else {
+            let latest = geometry.block_bit(disc_end).min(high - m) / k * k;
+            if latest < low + m {
+                low
+            } else if rng.percent(80) {
+                latest
+            } else {
+                low + m + rng.below((latest - low - m) / k + 1) * k
+            }
+        };
+
+        let here = if rng.percent(20) {
+            rng.pick(&[0, 50, 100])
+        } else {
+            free_percent
+        };
+        let mut parts: Vec<(Owner, usize)> = Vec::new();
+        let mut body = overhang - low;
+        if zone == geometry.middle_zone() {
+            let mut length = m + k * rng.below(4);
+            if length > body || body - length < m {
+                length = body;
+            }
+            parts.push((Owner::Object(2), length));
+            body -= length;
+        }
+        for length in lengths(rng, &geometry, body) {
+            let owner = if rng.percent(here) {
+                Owner::Free
+            } else {
+                Owner::Object(match rng.below(20) {
+                    0 => 1,
+                    1 => 2,
+                    2..=6 => rng.between(3, last_id),
+                    _ => rng.pick(&pool),
+                } as u32)
+            };
+            match parts.last_mut() {
+                Some((Owner::Free, before)) if owner == Owner::Free && !free_may_touch => {
+                    *before += length
+                }
+                _ => parts.push((owner, length)),
+            }
+        }
+        for length in lengths(rng, &geometry, high - overhang) {
+            parts.push((Owner::Object(1), length));
+        }
+
+        let mut start = low;
+        let mut fragments = Vec::new();
+        for (owner, length) in parts {
+            fragments.push(Fragment {
+                zone,
+                start,
+                length,
+                owner,
+            });
+            start += length;
+        }
+        let block = block_mut(&mut map, geometry.sector_size, zone);
+        write_fragments(&geometry, block, &fragments);
+    }
+    repair(&mut map, geometry.sector_size);
+    map
+}
+
+// -------------------------------------------------------------------- damage
+
+/// Damages a valid map towards the refusals named, deepest first, repairing
+/// the checks between so that a deeper refusal is the one reached.
+pub fn damage(rng: &mut Rng, map: &mut Vec<u8>, refusals: &[u32]) {
+    let checked = check(map).expect("a valid map to damage");
+    let geometry = checked.geometry;
+    let sector_size = geometry.sector_size;
+    for refusal in [7, 6, 5, 2] {
+        if refusals.contains(&refusal) {
+            match refusal {
+                7 => damage_owner(rng, map, &checked),
+                6 => damage_fragment(rng, map, &checked),
+                5 => damage_link(rng, map, &checked),
+                _ => damage_record(rng, map, &geometry),
+            }
+            repair(map, sector_size);
+        }
+    }
+    if refusals.contains(&4) {
+        let zone = rng.below(geometry.nzones);
+        block_mut(map, sector_size, zone)[3] ^= rng.between(1, 255) as u8;
+        repair_zone_checks(map, sector_size);
+    }
+    if refusals.contains(&3) {
+        for _ in 0..rng.between(1, 2) {
+            let zone = rng.below(geometry.nzones);
+            block_mut(map, sector_size, zone)[0] ^= rng.between(1, 255) as u8;
+        }
+    }
+    if refusals.contains(&1) {
+        damage_length(rng, map, &geometry);
+    }
+}
+
+/// Towards refusal 1: another length, or a record with another nzones.
+fn damage_length(rng: &mut Rng, map: &mut Vec<u8>, geometry: &Geometry) {
+    let whole = map.len();
+    let length = match rng.below(10) {
+        0 => rng.below(64),
+        1 => rng.pick(&[0, 1, 63, 64, 65]),
+        2 => whole - 1,
+        3 => whole + 1,
+        4 => whole - geometry.sector_size,
+        5 => whole + geometry.sector_size,
+        6 => rng.below(whole),
+        7 => whole + rng.below(300),
+        _ => {
+            let nzones = rng.between(1, 127) as u8;
+            map[13] = nzones;
+            repair(map, geometry.sector_size);
+            whole
+        }
+    };
+    map.resize(length, rng.byte());
+}
+
+/// Towards refusal 2: one field outside or at the edge of its range. A small
+/// disc_size goes with most changes, so that no other rule is broken by them.
+fn damage_record(rng: &mut Rng, map: &mut [u8], geometry: &Geometry) {
+    let mut record = DiscRecord::read(map);
+    let whole_block = 8 * geometry.sector_size;
+    let k = geometry.cluster_bits;
+    let most_bytes = geometry.disc_bits() as u64 * geometry.bytes_per_map_bit;
+    let what = rng.below(22);
+    match what {
+        0 => record.log2secsize = rng.pick(&[0, 7, 11, 255]),
+        1 => record.log2secsize = rng.pick(&[8, 9, 10]),
+        2 => record.idlen = record.log2secsize + 2,
+        3 => record.idlen = 16,
+        4 => record.idlen = rng.pick(&[0, 10, 11, 255]),
+        5 => record.log2bpmb = rng.pick(&[6, 13]),
+        6 => record.log2bpmb = rng.pick(&[0, 7, 12, 255]),
+        7 => record.nzones = rng.pick(&[0, 128, 255]),
+        8 => record.zone_spare = 31,
+        9 => record.zone_spare = 32 - k as u16,
+        10 => record.zone_spare = rng.pick(&[0, 16, 24]),
+        11 | 12 => record.zone_spare += rng.between(1, k) as u16,
+        13 => {
+            // Z - 480 is m - k.
+            let zone_bits = 480 + geometry.shortest_fragment - k;
+            record.zone_spare = (whole_block - zone_bits) as u16;
+        }
+        14 => record.zone_spare = rng.pick(&[65_535, 32_768, whole_block as u16, 8_192, 8_191]),
+        15 => {
+            // P*nzones above 2^idlen, where that takes at most 127 zones.
+            let nzones = (1 << geometry.idlen) / geometry.ids_per_zone + 1;
+            record.nzones = nzones.min(128) as u8;
+        }
+        16 => record.disc_size = 0,
+        17 => record.disc_size -= rng.between(1, geometry.sector_size - 1) as u32,
+        18 => record.disc_size = (most_bytes + geometry.sector_size as u64) as u32,
+        19 => record.disc_size = rng.pick(&[u32::MAX, 0xFFFF_FC00, 0x8000_0000]),
+        20 => record.disc_size = most_bytes as u32,
+        _ => map[4 + rng.below(60)] = rng.byte(),
+    }
+    if what == 21 {
+        return;
+    }
+    if what < 16 && rng.percent(80) {
+        record.disc_size = 1 << record.log2secsize.clamp(8, 10);
+    }
+    record.write(map);
+}
+
+/// Towards refusal 5: FreeLink's top bit, FreeLink, or a free fragment's link.
+fn damage_link(rng: &mut Rng, map: &mut [u8], checked: &CheckedMap) {
+    let geometry = &checked.geometry;
+    let zone = rng.below(geometry.nzones);
+    let fragments = &checked.zones[zone];
+    let free: Vec<Fragment> = fragments
+        .iter()
+        .copied()
+        .filter(|fragment| fragment.owner == Owner::Free)
+        .collect();
+    let block = block_mut(map, geometry.sector_size, zone);
+    if rng.percent(20) {
+        block[2] &= 0x7F;
+        return;
+    }
+    let target = match rng.below(8) {
+        0 => rng.below(0x8000) + 8,
+        1 => geometry.end_block_bit(),
+        2 => rng.pick(fragments).start + 1,
+        3 => rng.pick(fragments).start - 1,
+        4 => rng.pick(fragments).start,
+        5 => rng.pick(fragments).end() - 1,
+        6 => geometry.first_block_bit(zone) + 8,
+        _ => rng.between(9, geometry.end_block_bit() + 8),
+    };
+    if free.is_empty() || rng.percent(50) {
+        let link = target.saturating_sub(8);
+        block[1..3].copy_from_slice(&(0x8000 | link as u16).to_le_bytes());
+    } else {
+        let from = rng.pick(&free).start;
+        let link = target.saturating_sub(from);
+        set_number(block, from, geometry.idlen, link);
+    }
+}
+
+/// Towards refusal 6: closing bits cleared, moved or set too early.
+fn damage_fragment(rng: &mut Rng, map: &mut [u8], checked: &CheckedMap) {
+    let geometry = &checked.geometry;
+    let zone = rng.below(geometry.nzones);
+    let fragments = &checked.zones[zone];
+    let last = fragments[fragments.len() - 1];
+    let some = rng.pick(fragments);
+    let block = block_mut(map, geometry.sector_size, zone);
+    match rng.below(6) {
+        // No closing bit before the zone's end.
+        0 => set_bit(block, last.end() - 1, false),
+        // Under idlen + 1 bits left.
+        1 => set_bit(
+            block,
+            last.end() - 1 - rng.between(1, geometry.idlen.min(last.length - 1)),
+            true,
+        ),
+        // A length that is one off.
+        2 => {
+            set_bit(block, some.end() - 1, false);
+            set_bit(block, some.end() - 2, true);
+        }
+        3 => set_bit(block, some.end() - 1, false),
+        4 => set_bit(block, rng.between(some.start, some.end() - 1), true),
+        _ => {
+            let end = geometry.end_block_bit();
+            for block_bit in rng.between(some.start, end)..end {
+                set_bit(block, block_bit, false);
+            }
+        }
+    }
+}
+
+/// Towards refusal 7: an id out of range, object 2 or the overhang broken.
+fn damage_owner(rng: &mut Rng, map: &mut [u8], checked: &CheckedMap) {
+    let geometry = &checked.geometry;
+    let wrong_ids = [
+        0,
+        geometry.ids(),
+        geometry.ids() + 1,
+        (1 << geometry.idlen) - 1,
+    ];
+    let mut zone = rng.below(geometry.nzones);
+    let what = rng.below(8);
+    if what == 0 {
+        zone = geometry.middle_zone();
+    }
+    if what >= 6 && geometry.disc_end_bit() < geometry.disc_bits() {
+        zone = geometry.zone_of(geometry.disc_end_bit());
+    }
+    let mut fragments = checked.zones[zone].clone();
+    let last = fragments.len() - 1;
+    match what {
+        // Object 2's place.
+        0 => {
+            fragments[0].owner = match rng.below(3) {
+                0 => Owner::Free,
+                1 => Owner::Object(1),
+                _ => Owner::Object(3),
+            }
+        }
+        // The zone's last fragment, which may hang over the disc's end.
+        1 => fragments[last].owner = rng.pick(&[Owner::Free, Owner::Object(3)]),
+        2 => fragments[last].owner = Owner::Object(2),
+        // Free fragments taken off the chain: their links become ids.
+        3 => {
+            let block = block_mut(map, geometry.sector_size, zone);
+            block[1..3].copy_from_slice(&0x8000u16.to_le_bytes());
+            return;
+        }
+        // The fragment before the overhang made one cluster longer.
+        6 | 7 => {
+            let overhang = fragments.iter().rposition(|f| f.owner != Owner::Object(1));
+            let k = geometry.cluster_bits;
+            if let Some(before) = overhang.filter(|before| *before < last) {
+                if fragments[before + 1].length >= geometry.shortest_fragment + k {
+                    fragments[before].length += k;
+                    fragments[before + 1].start += k;
+                    fragments[before + 1].length -= k;
+                }
+            }
+        }
+        _ => {
+            let id = rng.pick(&wrong_ids) as u32;
+            let index = rng.below(fragments.len());
+            fragments[index].owner = Owner::Object(id);
+        }
+    }
+    let block = block_mut(map, geometry.sector_size, zone);
+    write_fragments(geometry, block, &fragments);
+}
+
+/// Flips a few bits, with the checks repaired or not.
+fn flip_bits(rng: &mut Rng, map: &mut [u8], sector_size: usize) {
+    for _ in 0..rng.between(1, 4) {
+        let index = rng.below(map.len());
+        map[index] ^= 1 << rng.below(8);
+    }
+    if rng.percent(60) {
+        repair(map, sector_size);
+    }
+}
+
+/// Noise of any length, with or without a plausible record and right checks.
+fn noise(rng: &mut Rng, largest_map: usize) -> Vec<u8> {
+    if rng.percent(40) {
+        let length = match rng.below(3) {
+            0 => rng.below(130),
+            1 => 256 << rng.below(3),
+            _ => rng.below(largest_map.min(2_048) + 1),
+        };
+        return (0..length).map(|_| rng.byte()).collect();
+    }
+    let record = disc_record(rng, largest_map);
+    let sector_size = 1usize << record.log2secsize;
+    let length = record.nzones as usize * sector_size;
+    // Few set bits make long fragments, many make short ones.
+    let density = rng.pick(&[2, 10, 50, 90]);
+    let mut map: Vec<u8> = (0..length)
+        .map(|_| if rng.percent(density) { rng.byte() } else { 0 })
+        .collect();
+    record.write(&mut map);
+    if rng.percent(90) {
+        for block in map.chunks_exact_mut(sector_size) {
+            if rng.percent(80) {
+                block[2] |= 0x80;
+            }
+            if rng.percent(50) {
+                block[1] = 0;
+                block[2] = 0x80;
+            }
+        }
+    }
+    if rng.percent(80) {
+        repair(&mut map, sector_size);
+    }
+    map
+}
+
+/// A map that may be damaged in any of the ways above.
+pub fn any_map(rng: &mut Rng, largest_map: usize) -> Vec<u8> {
+    if rng.percent(10) {
+        return noise(rng, largest_map);
+    }
+    let record = disc_record(rng, largest_map);
+    let mut map = valid_map(rng, &record);
+    match rng.below(10) {
+        0..=5 => {
+            let refusal = rng.pick(&[1, 2, 2, 3, 4, 5, 6, 6, 7, 7]);
+            damage(rng, &mut map, &[refusal]);
+        }
+        6 | 7 => {
+            let refusals = [rng.between(1, 7) as u32, rng.between(1, 7) as u32];
+            damage(rng, &mut map, &refusals);
+        }
+        _ => flip_bits(rng, &mut map, 1 << record.log2secsize),
+    }
+    map
+}
+
+// ----------------------------------------------------------------- arguments
+
+/// The ids of the objects on a map, each once, ascending.
+pub fn objects(checked: &CheckedMap) -> Vec<u32> {
+    let mut ids = Vec::new();
+    for fragment in checked.fragments() {
+        if let Owner::Object(id) = fragment.owner {
+            ids.push(id);
+        }
+    }
+    ids.sort();
+    ids.dedup();
+    ids
+}
+
+/// An id: mostly one on the map from 3 up, else absent or at an edge.
+fn some_id(rng: &mut Rng, checked: &CheckedMap, present_percent: usize) -> u32 {
+    let ids = checked.geometry.ids() as u32;
+    let mut present = objects(checked);
+    if rng.percent(90) {
+        present.retain(|id| *id >= 3);
+    }
+    if !present.is_empty() && rng.percent(present_percent) {
+        return rng.pick(&present);
+    }
+    if rng.percent(75) {
+        return rng.between(3, ids as usize - 1) as u32;
+    }
+    let far = rng.word() as u32;
+    rng.pick(&[0, 1, 2, 3, ids - 1, ids, ids + 1, u32::MAX, far])
+}
+
+/// Old contents of a lent list.
+fn room(rng: &mut Rng, entries: usize) -> Vec<u32> {
+    (0..entries).map(|_| rng.word() as u32).collect()
+}
+
+/// Room around what a number of pairs takes.
+fn room_for(rng: &mut Rng, pairs: usize, largest: usize) -> Vec<u32> {
+    let exact = 2 * pairs;
+    let entries = match rng.below(12) {
+        0 => 0,
+        1 => 1,
+        2 => exact.saturating_sub(1),
+        3 => exact.saturating_sub(2),
+        4 | 5 => exact + 1,
+        6 | 7 => exact,
+        _ => exact + rng.below(20),
+    };
+    room(rng, entries.min(largest))
+}
+
+/// Pieces cut out of the free spans, right for the id in every way.
+fn right_list(rng: &mut Rng, checked: &CheckedMap, id: u32) -> Vec<u32> {
+    let geometry = &checked.geometry;
+    let free = checked.free();
+    let mut pieces: Vec<Fragment> = Vec::new();
+    let chosen_percent = (100 * rng.between(1, 4) / free.len().max(1)).clamp(2, 100);
+    let segment_percent = rng.pick(&[20, 50, 100]);
+    for hole in &free {
+        if pieces.len() > 40 || !rng.percent(chosen_percent) {
+            continue;
+        }
+        let mut start = hole.start;
+        for length in lengths(rng, geometry, hole.length) {
+            if rng.percent(segment_percent) && pieces.len() <= 40 {
+                pieces.push(Fragment {
+                    zone: hole.zone,
+                    start,
+                    length,
+                    owner: Owner::Free,
+                });
+            }
+            start += length;
+        }
+    }
+    let zones = geometry
+        .zones_in_object_order(id.clamp(1, geometry.ids() as u32 - 1))
+        .expect("an id in range");
+    pieces.sort_by_key(|piece| (zones.iter().position(|z| *z == piece.zone), piece.start));
+    let mut list = Vec::new();
+    for piece in &pieces {
+        let (disc_bit, length) = checked.pair(piece);
+        list.extend_from_slice(&[disc_bit, length]);
+    }
+    list
+}
+
+/// A list made wrong in one way, or at least changed. It may already be wrong,
+/// so its numbers are reckoned modulo 2^32.
+fn spoil_list(rng: &mut Rng, checked: &CheckedMap, list: &mut Vec<u32>) {
+    let geometry = &checked.geometry;
+    let k = geometry.cluster_bits as u32;
+    let m = geometry.shortest_fragment as u32;
+    let disc_bits = geometry.disc_bits() as u32;
+    let pairs = list.len() / 2;
+    if pairs == 0 {
+        let entry = rng.word() as u32;
+        *list = match rng.below(4) {
+            0 => vec![],
+            1 => vec![entry],
+            2 => vec![disc_bits - m, m],
+            _ => vec![0, m],
+        };
+        return;
+    }
+    let pair = rng.below(pairs);
+    let (start, length) = (list[2 * pair], list[2 * pair + 1]);
+    match rng.below(22) {
+        0 => list.clear(),
+        1 => {
+            list.pop();
+        }
+        2 => list.rotate_left(2 * pair),
+        3 => list.rotate_left(1),
+        4 => {
+            let other = rng.below(pairs);
+            list.swap(2 * pair, 2 * other);
+            list.swap(2 * pair + 1, 2 * other + 1);
+        }
+        5 => list.extend_from_slice(&[start, length]),
+        6 => list[2 * pair] = start.wrapping_add(rng.pick(&[1, k, 2 * k, m - k, m])),
+        7 => list[2 * pair] = start.wrapping_sub(rng.pick(&[1, k, 2 * k, m - k, m])),
+        8 => list[2 * pair + 1] = length.wrapping_add(rng.pick(&[1, k, 2 * k, m - k, m])),
+        9 => list[2 * pair + 1] = length - rng.pick(&[1, k, m - k, length]).min(length),
+        // Shortened at its start, so that a leftover comes before it.
+        10 => {
+            let less = k * rng.between(1, (m / k) as usize) as u32;
+            if length >= m + less {
+                list[2 * pair] = start.wrapping_add(less);
+                list[2 * pair + 1] = length - less;
+            } else {
+                list[2 * pair + 1] = m - k;
+            }
+        }
+        11 => {
+            let less = k * rng.between(1, (m / k) as usize) as u32;
+            list[2 * pair + 1] = length.saturating_sub(less).max(m);
+        }
+        12 => list[2 * pair + 1] = rng.pick(&[0, 1, m - 1, m - k]),
+        // Off the disc map, at its end, or across a zone's end.
+        13 => list[2 * pair] = rng.pick(&[disc_bits, disc_bits - 1, disc_bits - m, disc_bits + m]),
+        14 => {
+            let zone = geometry.zone_of(start as usize);
+            let end = geometry.disc_bit(zone, geometry.end_block_bit()) as u32;
+            list[2 * pair + 1] = end.wrapping_sub(start).wrapping_add(rng.pick(&[0, k, m]));
+        }
+        15 => {
+            let zone = rng.below(geometry.nzones);
+            let end = geometry.disc_bit(zone, geometry.end_block_bit()) as u32;
+            list[2 * pair] = end.wrapping_sub(rng.pick(&[m, k, m - k, 2 * m]));
+            list[2 * pair + 1] = rng.pick(&[m, 2 * m]);
+        }
+        // Near 2^32, where sums would wrap.
+        16 => list[2 * pair] = rng.pick(&[u32::MAX, 0u32.wrapping_sub(k), 0u32.wrapping_sub(m)]),
+        17 => {
+            list[2 * pair + 1] = rng.pick(&[
+                u32::MAX,
+                0u32.wrapping_sub(k),
+                0u32.wrapping_sub(start),
+                0u32.wrapping_sub(start).wrapping_add(m),
+            ])
+        }
+        // An owned fragment among the pieces.
+        18 => {
+            let fragments = checked.fragments();
+            let (disc_bit, length) = checked.pair(&rng.pick(&fragments));
+            list[2 * pair] = disc_bit;
+            list[2 * pair + 1] = length;
+        }
+        // One piece as two that touch.
+        19 if length >= 2 * m => {
+            let tail = list.split_off(2 * pair + 2);
+            list[2 * pair + 1] = m;
+            list.extend_from_slice(&[start.wrapping_add(m), length - m]);
+            list.extend(tail);
+        }
+        // One piece as two that overlap.
+        20 if length >= 2 * m => {
+            let tail = list.split_off(2 * pair + 2);
+            list.extend_from_slice(&[start.wrapping_add(k), length - k]);
+            list.extend(tail);
+        }
+        _ => {
+            let index = rng.below(list.len());
+            list[index] = rng.word() as u32;
+        }
+    }
+}
+
+/// A position in an object or near its edges, or near 2^64.
+fn some_position(rng: &mut Rng, checked: &CheckedMap, n: u32) -> u64 {
+    let geometry = &checked.geometry;
+    let id = n / 256;
+    let offset = (n % 256).saturating_sub(1) as u64 * geometry.sector_size as u64;
+    let pieces = checked.object(id).unwrap_or_default();
+    let mut ends = vec![0u64];
+    for piece in &pieces {
+        let before = ends[ends.len() - 1];
+        ends.push(before + piece.length as u64 * geometry.bytes_per_map_bit);
+    }
+    let whole = ends[ends.len() - 1];
+    let near = rng.pick(&[0u64, 1, 2, 255]);
+    match rng.below(12) {
+        0 => 0,
+        1..=3 if whole > offset => rng.word() % (whole - offset),
+        4 => whole.saturating_sub(offset + 1),
+        5 => whole.saturating_sub(offset),
+        6 => (whole + near).saturating_sub(offset),
+        7 | 8 => rng.pick(&ends).saturating_sub(offset),
+        9 => rng.pick(&ends).saturating_sub(offset + 1),
+        // A sum that would wrap to the object's start.
+        10 => near.wrapping_sub(offset),
+        _ => {
+            let any = rng.word();
+            rng.pick(&[u64::MAX, u64::MAX - near, 1 << 63, 1 << 32, any])
+        }
+    }
+}
+
+/// A stretch for a sweep: its first disc address and its length.
+fn some_stretch(
+    rng: &mut Rng,
+    checked: &CheckedMap,
+    id: Option<u32>,
+    largest: usize,
+) -> (u64, usize) {
+    let geometry = &checked.geometry;
+    let disc_size = geometry.disc_size;
+    let length = match rng.below(6) {
+        0 => rng.below(4),
+        1 => rng.below(largest + 1),
+        2 => rng.below(300),
+        3 => largest,
+        _ => rng.below(largest.min(4_096) + 1),
+    };
+    let mut fragments = match id {
+        Some(id) => checked.object(id).unwrap_or_default(),
+        None => checked.free(),
+    };
+    if fragments.is_empty() || rng.percent(10) {
+        fragments = checked.fragments();
+    }
+    let fragment = rng.pick(&fragments);
+    let start = geometry.disc_bit(fragment.zone, fragment.start) as u64;
+    let from = start * geometry.bytes_per_map_bit;
+    let to = (start + fragment.length as u64) * geometry.bytes_per_map_bit;
+    let back = rng.below(length + 1) as u64;
+    let inside = |first: u64| first.min(disc_size.saturating_sub(length as u64));
+    match rng.below(16) {
+        0..=4 => (inside(from.saturating_sub(back)), length),
+        5..=8 => (inside(to.saturating_sub(back)), length),
+        9 => (inside(rng.word() % (disc_size + 1)), length),
+        10 => (disc_size.saturating_sub(length as u64), length),
+        11 => (disc_size.saturating_sub(length as u64) + 1, length),
+        12 => (disc_size + rng.pick(&[0, 1, 1_000]), 0),
+        13 => (rng.word() % (disc_size + 1), 0),
+        14 => (
+            rng.pick(&[
+                u64::MAX,
+                u64::MAX - length as u64,
+                0u64.wrapping_sub(length as u64),
+            ]),
+            length,
+        ),
+        _ => (rng.word() % (disc_size + 1), length),
+    }
+}
+
+/// A size for a claim: around holes, 0, 1, and near 2^64.
+fn some_size(rng: &mut Rng, checked: &CheckedMap) -> u64 {
+    let geometry = &checked.geometry;
+    let bytes = geometry.bytes_per_map_bit;
+    let k = geometry.cluster_bits as u64;
+    let m = geometry.shortest_fragment as u64;
+    let free = checked.free();
+    let hole = if free.is_empty() {
+        m
+    } else {
+        rng.pick(&free).length as u64
+    };
+    let most = free
+        .iter()
+        .map(|hole| hole.length as u64)
+        .max()
+        .unwrap_or(m);
+    match rng.below(16) {
+        0 => 0,
+        1 => 1,
+        2 => hole * bytes,
+        3 => hole * bytes - rng.below((k * bytes) as usize) as u64,
+        4 => hole * bytes + 1,
+        5 => hole.saturating_sub(m) * bytes,
+        6 => hole.saturating_sub(m) * bytes + 1,
+        7 => hole.saturating_sub(m - k) * bytes,
+        8 => hole.saturating_sub(k) * bytes,
+        9 => most * bytes + 1,
+        10 => rng.pick(&[
+            u64::MAX,
+            u64::MAX - k * bytes,
+            0u64.wrapping_sub(k * bytes) + 1,
+            1 << 63,
+            1 << 32,
+        ]),
+        11 => m * bytes + rng.below(3) as u64 - 1,
+        _ => 1 + rng.word() % (most * bytes),
+    }
+}
+
+/// Lists that earlier calls answered, with the id they were answered for.
+pub type Memory = Vec<(u32, Vec<u32>)>;
+
+/// A call with arguments for a map, which may be one that is refused.
+pub fn arguments(rng: &mut Rng, call: Call, map: &[u8], sizes: &Sizes, memory: &Memory) -> Case {
+    let mut case = Case::new(call, map);
+    case.fill = rng.byte();
+    let checked = match check(map) {
+        Ok(checked) => checked,
+        Err(_) => {
+            // Arguments that would do on some map.
+            case.number = rng.pick(&[2, 3, 5, 0x000300, 0x000501]);
+            case.wide = rng.pick(&[0, 1, 1_000]);
+            if call.writes_image() {
+                case.image = (0..rng.below(100)).map(|_| rng.byte()).collect();
+            }
+            if call.writes_list() {
+                let entries = rng.below(60);
+                case.list = room(rng, entries);
+            }
+            if call == Call::Place {
+                case.list = vec![12, 24];
+            }
+            return case;
+        }
+    };
+    match call {
+        Call::Check => {}
+        Call::List => {
+            case.number = some_id(rng, &checked, 80);
+            if rng.percent(10) {
+                case.number = rng.pick(&[1, 2]);
+            }
+            let pairs = checked.object(case.number).map_or(0, |pieces| pieces.len());
+            case.list = room_for(rng, pairs, sizes.list);
+        }
+        Call::Free => case.list = room_for(rng, checked.free().len(), sizes.list),
+        Call::Address => {
+            let id = match rng.below(10) {
+                0 | 1 => 2,
+                2 => rng.pick(&[0, 1]),
+                _ => some_id(rng, &checked, 85),
+            };
+            let any = rng.below(256) as u32;
+            let low_byte = rng.pick(&[0, 1, 2, 3, 254, 255, any]);
+            case.number = (id << 8) | low_byte;
+            if rng.percent(5) {
+                let edge = 1u32 << 24;
+                case.number = rng.pick(&[
+                    edge - 1,
+                    edge,
+                    edge + (3 << 8),
+                    edge | case.number,
+                    u32::MAX,
+                ]);
+            }
+            case.wide = some_position(rng, &checked, case.number);
+        }
+        Call::SweepObject => {
+            case.number = some_id(rng, &checked, 85);
+            let (first, length) = some_stretch(rng, &checked, Some(case.number), sizes.image);
+            case.wide = first;
+            case.image = old_image(rng, length, case.fill);
+        }
+        Call::SweepFree => {
+            let (first, length) = some_stretch(rng, &checked, None, sizes.image);
+            case.wide = first;
+            case.image = old_image(rng, length, case.fill);
+        }
+        Call::Release => {
+            case.number = some_id(rng, &checked, 85);
+            let pairs = checked.object(case.number).map_or(0, |pieces| pieces.len());
+            case.list = room_for(rng, pairs, sizes.list);
+        }
+        Call::Place => {
+            case.number = some_id(rng, &checked, 10);
+            if !memory.is_empty() && rng.percent(25) {
+                let (id, list) = &memory[rng.below(memory.len())];
+                case.list = list.clone();
+                if rng.percent(80) {
+                    case.number = *id;
+                }
+            } else {
+                case.list = right_list(rng, &checked, case.number);
+            }
+            if rng.percent(45) {
+                spoil_list(rng, &checked, &mut case.list);
+            }
+            if rng.percent(5) {
+                spoil_list(rng, &checked, &mut case.list);
+            }
+            case.list.truncate(sizes.list);
+        }
+        Call::Claim => case.wide = some_size(rng, &checked),
+    }
+    case
+}
+
+/// Old contents of an image: noise, the fill itself, or another byte.
+fn old_image(rng: &mut Rng, length: usize, fill: u8) -> Vec<u8> {
+    match rng.below(4) {
+        0 => vec![!fill; length],
+        1 if length < 64 => vec![fill; length],
+        _ => (0..length).map(|_| rng.byte()).collect(),
+    }
+}
+
+// ---------------------------------------------------------------------- runs
+
+/// Plays the calls of one seed: every call on a valid map, a run of edits on
+/// one map, or calls on a damaged map. Each goes to `visit` with its outcome.
+pub fn play(seed: u64, sizes: &Sizes, visit: &mut dyn FnMut(&Case, &Outcome)) {
+    let mut rng = Rng::new(seed);
+    let rng = &mut rng;
+    // Mostly small maps; now and then as large as wanted.
+    let largest_map = match rng.below(50) {
+        0 => sizes.map,
+        1..=4 => sizes.map.min(32_768),
+        5..=14 => sizes.map.min(8_192),
+        _ => sizes.map.min(2_048),
+    };
+    match rng.below(10) {
+        0..=3 => {
+            let record = disc_record(rng, largest_map);
+            let map = valid_map(rng, &record);
+            for call in CALLS {
+                let times = if call == Call::Check { 1 } else { 2 };
+                for _ in 0..times {
+                    let case = arguments(rng, call, &map, sizes, &Memory::new());
+                    visit(&case, &case.run());
+                }
+            }
+        }
+        4..=6 => {
+            let record = disc_record(rng, largest_map);
+            let map = valid_map(rng, &record);
+            play_run(rng, map, sizes, visit);
+        }
+        _ => {
+            let map = any_map(rng, largest_map);
+            let mut calls = vec![Call::Check];
+            for _ in 0..3 {
+                calls.push(rng.pick(&CALLS));
+            }
+            for call in calls {
+                let case = arguments(rng, call, &map, sizes, &Memory::new());
+                visit(&case, &case.run());
+            }
+        }
+    }
+}
+
+/// A run of releases, places and claims on one map, each call on the map as
+/// the call before left it, with readings between (document 01, "Runs").
+fn play_run(
+    rng: &mut Rng,
+    mut map: Vec<u8>,
+    sizes: &Sizes,
+    visit: &mut dyn FnMut(&Case, &Outcome),
+) {
+    let mut memory = Memory::new();
+    for _ in 0..rng.between(4, 24) {
+        let call = match rng.below(12) {
+            0..=3 => Call::Release,
+            4..=6 => Call::Place,
+            7..=9 => Call::Claim,
+            10 => Call::Free,
+            _ => Call::List,
+        };
+        let case = arguments(rng, call, &map, sizes, &memory);
+        let outcome = case.run();
+        visit(&case, &outcome);
+        if outcome.number == 0 && call == Call::Release {
+            let entries = 2 * outcome.values[0] as usize;
+            memory.push((case.number, outcome.list[..entries].to_vec()));
+        }
+        map = outcome.map;
+    }
+}
+
+// ------------------------------------------------------- maps of document 01
+
+/// Map A of document 01's bench examples, byte by byte.
+pub fn map_a() -> Vec<u8> {
+    let mut map = vec![0; 256];
+    for (index, value) in [
+        (0, 0xC7),
+        (1, 0x04),
+        (2, 0x82),
+        (3, 0xFF),
+        (4, 0x08),
+        (8, 0x0B),
+        (9, 0x0A),
+        (13, 0x01),
+        (14, 0x20),
+        (22, 0x18),
+        (64, 0x02),
+        (65, 0x08),
+        (255, 0x80),
+    ] {
+        map[index] = value;
+    }
+    map
+}
+
+/// Map B: A with object 5 placed at (12,20).
+pub fn map_b() -> Vec<u8> {
+    let mut map = map_a();
+    for (index, value) in [(0, 0x28), (1, 0x18), (65, 0x58), (67, 0x80)] {
+        map[index] = value;
+    }
+    map
+}
+
+/// Object 690 of source document 000: 8 zones, fragments in zones
+/// 4, 4, 6, 0, 0, 0, 2, 3 in object order.
+pub fn map_690() -> Vec<u8> {
+    let record = DiscRecord {
+        log2secsize: 8,
+        idlen: 11,
+        log2bpmb: 10,
+        nzones: 8,
+        zone_spare: 32,
+        disc_size: (8 * 2_016 - 480 - 1_000) * 1_024,
+    };
+    let object = |id: u32, length: usize| (Owner::Object(id), length);
+    let free = |length: usize| (Owner::Free, length);
+    build(
+        &record,
+        &[
+            vec![
+                object(690, 20),
+                object(3, 12),
+                object(690, 30),
+                free(100),
+                object(690, 12),
+                free(1_362),
+            ],
+            vec![free(2_016)],
+            vec![free(500), object(690, 16), free(1_500)],
+            vec![object(690, 2_016)],
+            vec![
+                object(2, 24),
+                object(690, 40),
+                free(100),
+                object(690, 12),
+                free(1_840),
+            ],
+            vec![object(7, 2_016)],
+            vec![free(1_000), object(690, 1_016)],
+            vec![free(1_000), object(1, 16), object(1, 1_000)],
+        ],
+    )
+}
+
+/// Eight zones, all free but object 2.
+pub fn map_of_eight_zones() -> Vec<u8> {
+    let record = DiscRecord {
+        log2secsize: 8,
+        idlen: 11,
+        log2bpmb: 10,
+        nzones: 8,
+        zone_spare: 32,
+        disc_size: (8 * 2_016 - 480) * 1_024,
+    };
+    let mut zones = vec![vec![(Owner::Free, 2_016)]; 8];
+    zones[0] = vec![(Owner::Free, 1_536)];
+    zones[4] = vec![(Owner::Object(2), 12), (Owner::Free, 2_004)];
+    build(&record, &zones)
+}
+
+/// The 800K floppy of the last bench line.
+pub fn map_floppy() -> Vec<u8> {
+    let record = DiscRecord {
+        log2secsize: 10,
+        idlen: 15,
+        log2bpmb: 7,
+        nzones: 1,
+        zone_spare: 1_312,
+        disc_size: 819_200,
+    };
+    build(
+        &record,
+        &[vec![
+            (Owner::Object(2), 32),
+            (Owner::Object(9), 16),
+            (Owner::Free, 6_352),
+        ]],
+    )
+}

@@ -1,0 +1,207 @@
+//! The disc record, its ranges and the numbers derived from them
+//! (document 01, "The disc record and its ranges").
+
+use crate::Refusal;
+
+/// The disc record starts at byte 4 of zone 0.
+pub const DISC_RECORD: usize = 4;
+
+/// Zone 0 has this many allocation bits fewer than every other zone.
+pub const ZONE_0_SHORTFALL: usize = 480;
+
+/// The fields of the disc record that are judged.
+#[derive(Clone, Copy, Debug, PartialEq, Eq)]
+pub struct DiscRecord {
+    pub log2secsize: u8,
+    pub idlen: u8,
+    pub log2bpmb: u8,
+    pub nzones: u8,
+    pub zone_spare: u16,
+    pub disc_size: u32,
+}
+
+impl DiscRecord {
+    /// Reads the record of a map of at least 64 bytes.
+    pub fn read(map: &[u8]) -> DiscRecord {
+        let record = &map[DISC_RECORD..DISC_RECORD + 60];
+        DiscRecord {
+            log2secsize: record[0],
+            idlen: record[4],
+            log2bpmb: record[5],
+            nzones: record[9],
+            zone_spare: u16::from_le_bytes([record[10], record[11]]),
+            disc_size: u32::from_le_bytes([record[16], record[17], record[18], record[19]]),
+        }
+    }
+
+    /// Writes the judged fields into a map; the carried ones stay.
+    pub fn write(&self, map: &mut [u8]) {
+        let record = &mut map[DISC_RECORD..DISC_RECORD + 60];
+        record[0] = self.log2secsize;
+        record[4] = self.idlen;
+        record[5] = self.log2bpmb;
+        record[9] = self.nzones;
+        record[10..12].copy_from_slice(&self.zone_spare.to_le_bytes());
+        record[16..20].copy_from_slice(&self.disc_size.to_le_bytes());
+    }
+}
+
+/// An accepted disc record with the numbers derived from it.
+#[derive(Clone, Copy, Debug, PartialEq, Eq)]
+pub struct Geometry {
+    /// S, the bytes of a sector and of a zone's block.
+    pub sector_size: usize,
+    /// B, the bytes of disc behind one map bit.
+    pub bytes_per_map_bit: u64,
+    /// k, the map bits of a cluster.
+    pub cluster_bits: usize,
+    /// Z, the allocation bits of every zone but zone 0.
+    pub zone_bits: usize,
+    /// m, the length of the shortest fragment.
+    pub shortest_fragment: usize,
+    /// P, the ids per zone.
+    pub ids_per_zone: usize,
+    pub idlen: usize,
+    pub nzones: usize,
+    pub disc_size: u64,
+}
+
+impl Geometry {
+    /// Judges a record; nothing where it is outside its ranges.
+    pub fn accept(record: &DiscRecord) -> Option<Geometry> {
+        if !(8..=10).contains(&record.log2secsize) {
+            return None;
+        }
+        if !(record.log2secsize + 3..=15).contains(&record.idlen) {
+            return None;
+        }
+        if !(7..=12).contains(&record.log2bpmb) {
+            return None;
+        }
+        if !(1..=127).contains(&record.nzones) {
+            return None;
+        }
+        if record.zone_spare < 32 {
+            return None;
+        }
+
+        let sector_size: i64 = 1 << record.log2secsize;
+        let bytes_per_map_bit: i64 = 1 << record.log2bpmb;
+        let cluster_bits = if bytes_per_map_bit < sector_size {
+            sector_size / bytes_per_map_bit
+        } else {
+            1
+        };
+        let idlen = record.idlen as i64;
+        let nzones = record.nzones as i64;
+        let disc_size = record.disc_size as i64;
+        let zone_bits = 8 * sector_size - record.zone_spare as i64;
+        // idlen + 1 rounded up to a multiple of k.
+        let shortest_fragment = (idlen + 1 + cluster_bits - 1) / cluster_bits * cluster_bits;
+
+        if zone_bits % cluster_bits != 0 {
+            return None;
+        }
+        if zone_bits - 480 < shortest_fragment {
+            return None;
+        }
+        // The divisor is idlen + 1, not rounded to clusters.
+        let ids_per_zone = zone_bits / (idlen + 1);
+        if ids_per_zone * nzones > 1 << idlen {
+            return None;
+        }
+        if disc_size <= 0
+            || disc_size % sector_size != 0
+            || disc_size > (nzones * zone_bits - 480) * bytes_per_map_bit
+        {
+            return None;
+        }
+
+        Some(Geometry {
+            sector_size: sector_size as usize,
+            bytes_per_map_bit: bytes_per_map_bit as u64,
+            cluster_bits: cluster_bits as usize,
+            zone_bits: zone_bits as usize,
+            shortest_fragment: shortest_fragment as usize,
+            ids_per_zone: ids_per_zone as usize,
+            idlen: idlen as usize,
+            nzones: nzones as usize,
+            disc_size: disc_size as u64,
+        })
+    }
+
+    /// P*nzones: every id lies below this number.
+    pub fn ids(&self) -> usize {
+        self.ids_per_zone * self.nzones
+    }
+
+    /// The block bit of a zone's first allocation bit.
+    pub fn first_block_bit(&self, zone: usize) -> usize {
+        if zone == 0 {
+            512
+        } else {
+            32
+        }
+    }
+
+    /// The block bit after a zone's last allocation bit.
+    pub fn end_block_bit(&self) -> usize {
+        32 + self.zone_bits
+    }
+
+    /// The disc bit of a zone's block bit.
+    pub fn disc_bit(&self, zone: usize, block_bit: usize) -> usize {
+        zone * self.zone_bits + block_bit - 512
+    }
+
+    /// How many disc bits the whole map has.
+    pub fn disc_bits(&self) -> usize {
+        self.nzones * self.zone_bits - ZONE_0_SHORTFALL
+    }
+
+    /// The zone in which a disc bit of the map lies.
+    pub fn zone_of(&self, disc_bit: usize) -> usize {
+        (disc_bit + ZONE_0_SHORTFALL) / self.zone_bits
+    }
+
+    /// The block bit of a disc bit, in the zone where it lies.
+    pub fn block_bit(&self, disc_bit: usize) -> usize {
+        disc_bit + 512 - self.zone_of(disc_bit) * self.zone_bits
+    }
+
+    /// The first disc bit that must be owned by 1, as must all after it.
+    pub fn disc_end_bit(&self) -> usize {
+        (self.disc_size / self.bytes_per_map_bit) as usize
+    }
+
+    /// The zone whose first fragment is owned by 2.
+    pub fn middle_zone(&self) -> usize {
+        self.nzones / 2
+    }
+
+    /// The start zone of an id from 1 to P*nzones - 1; any other is refused
+    /// with 8 (document 01, "Bits, fragments, chains", object order).
+    pub fn start_zone(&self, id: u32) -> Result<usize, Refusal> {
+        self.id_from(1, id)?;
+        if id == 2 {
+            Ok(self.middle_zone())
+        } else {
+            Ok(id as usize / self.ids_per_zone)
+        }
+    }
+
+    /// Refuses with 8 an id outside `lowest` to P*nzones - 1.
+    pub fn id_from(&self, lowest: u32, id: u32) -> Result<(), Refusal> {
+        if id < lowest || id as usize >= self.ids() {
+            return Err(Refusal::plain(8));
+        }
+        Ok(())
+    }
+
+    /// All zones in the object order of an id: its start zone, then later
+    /// zones, then from zone 0.
+    pub fn zones_in_object_order(&self, id: u32) -> Result<Vec<usize>, Refusal> {
+        let start = self.start_zone(id)?;
+        Ok((start..self.nzones).chain(0..start).collect())
+    }
+}
