@@ -1,7 +1,8 @@
 # make            proves the listing program and lists the fragments of a map (MAP=file; map A by default)
 # make test       the gate: layout, then every proof, every must-fail edit and every program
 # make library    the static library for C and Rust
-# make compare    many generated maps through the library and through the second program (SEEDS=n for more)
+# make compare    many generated maps through the library and through the second program (SEEDS=n for more), and that the
+#                 stored cases are current
 # make cases      the stored cases of crate vectors, written again by the second program
 MAP ?= maps/a.map
 SEEDS ?= 40000
@@ -20,8 +21,12 @@ library:
 	rt staticlib shoalswift
 
 compare: library
-	cd second && cargo build --release --offline -p compare
+	cd second && cargo build --release --offline -p reference -p compare
 	SEEDS=$(SEEDS) second/target/release/compare
+	mkdir -p second/target/cases
+	second/target/release/cases second/target/cases
+	cmp second/target/cases/stdin crates/vectors/stdin
+	cmp second/target/cases/stdout crates/vectors/stdout
 
 cases:
 	cd second && cargo build --release --offline -p reference

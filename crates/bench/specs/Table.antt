@@ -3,6 +3,7 @@
 use mathlib.Core.Bool.{Bool, true, false}
 use mathlib.Core.List.{List, [], _∷_}
 use Prim.Native.Nat.{ℕ}
+use lib.ListN.{set}
 use Rattle.geometry.specs.Record.{geometryFrom}
 use Rattle.checks.specs.Maps.{mapA, mapB}
 use Rattle.calls.specs.Judge.{release, place, claim}
@@ -20,6 +21,10 @@ expected r = r .numbers
 
 abbrev row : Question → List ℕ → Row
 row q ns = record { question = q; numbers = ns }
+
+-- A with object 4 placed at (24,12)
+abbrev mapC : List ℕ
+mapC = set (set (set (set (set mapA 0 0x35) 65 136) 66 129) 67 4) 68 8
 
 abbrev pub table : List Row
 table =
@@ -66,10 +71,15 @@ table =
     ∷ row (change (true ∷ false ∷ true ∷ true ∷ false ∷ false ∷ true ∷ true ∷ [])) (1 ∷ 0 ∷ 2 ∷ 3 ∷ 0 ∷ 0 ∷ 1 ∷ 1 ∷ [])
     -- "log2secsize 10, idlen 15, log2bpmb 7, one zone, zone_spare 1312: Z 6880, m 16, P 430, 819,200 bytes."
     ∷ row (sizes (geometryFrom 10 15 7 1 1312 819200)) (6880 ∷ 16 ∷ 430 ∷ 819200 ∷ [])
-    -- Our own rows. B is A with 5 placed.
+    -- Our own rows. B is A with 5 placed, C is A with 4 placed.
     ∷ row (after mapA (place 5 (12 ∷ 20 ∷ []))) mapB
+    ∷ row (after mapA (place 4 (24 ∷ 12 ∷ []))) mapC
     -- The lowest unused id of B is 3, and its first hole starts after 5.
     ∷ row (edit mapB (claim 12289)) (0 ∷ 3 ∷ 32 ∷ 13 ∷ [])
+    -- C has two holes, (12,12) and (36,1500), and object 4: the first hole that is long enough is taken, and the lowest unused id.
+    ∷ row (free mapC) (0 ∷ 12 ∷ 12 ∷ 36 ∷ 1500 ∷ [])
+    ∷ row (edit mapC (claim 1)) (0 ∷ 3 ∷ 12 ∷ 12 ∷ [])
+    ∷ row (edit mapC (claim 12289)) (0 ∷ 3 ∷ 36 ∷ 13 ∷ [])
     -- Refusals of edits that the rows above leave out, and a list out of object order.
     ∷ row (edit mapB (claim 0)) (12 ∷ 0 ∷ [])
     ∷ row (edit mapB (place 5 (32 ∷ 12 ∷ []))) (11 ∷ 0 ∷ [])
