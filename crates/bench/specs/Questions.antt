@@ -6,8 +6,8 @@ use Prim.Native.Nat.{ℕ}
 use Rattle.geometry.specs.declared.Geometry.{Geometry}
 use Rattle.geometry.specs.Places.{startZone}
 use Rattle.checks.specs.Cross.{changes}
+use Rattle.model.specs.Chain.{numbersOf}
 use Rattle.map.specs.Checked.{checked, checkNumbers}
-use Rattle.listing.specs.Held.{numbersOf}
 use Rattle.listing.specs.Listed.{PairsFound, objectFound, freeFound}
 use Rattle.listing.specs.Listed as pairs
 use Rattle.reach.specs.Address.{AddressFound, addressFound}

@@ -19,8 +19,9 @@ use Rattle.model.proofs.Options.{none-some, some-some}
 use Rattle.calls.specs.Edits.{insert, own, give, inZone}
 use Rattle.calls.specs.Holes.{holes, holesFrom, gapFits, apart}
 use Rattle.calls.specs.Judge.{firstHole, taken}
+use Rattle.calls.specs.Room.{In}
 use Rattle.calls.proofs.Kept.{All, all-keep, all-insert}
-use Rattle.calls.proofs.Entries.{In, in-append}
+use Rattle.calls.proofs.Entries.{in-append}
 use Rattle.calls.proofs.ByPlace.{weak-insert, keep-insert-no}
 use Rattle.calls.proofs.PutIn.{keep-insert}
 use Rattle.calls.proofs.Gaps.{Gap, gap-of-test, test-of-gap, gap-le, gap-shift, isLong, apart-le}

@@ -7,12 +7,8 @@ use lib.Dec.{ltb}
 use Rattle.bits.proofs.Tests.{by-test}
 use Rattle.model.specs.Pieces.{Piece, keep}
 use Rattle.calls.specs.Edits.{insert, put}
+use Rattle.calls.specs.Room.{In}
 use Rattle.calls.proofs.Kept.{All}
-
--- an entry of the list
-abbrev pub In : {A : Type 0} → A → List A → Type 0
-In h [] = ⊥
-In h (x ∷ xs) = (h ≡ x) ⊎ In h xs
 
 pub all-in : {A : Type 0} (t : A → Bool) (xs : List A) (h : A) → All t xs → In h xs → t h ≡ true
 all-in t [] h a i = absurd i

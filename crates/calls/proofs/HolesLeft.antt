@@ -17,7 +17,7 @@ use Rattle.model.proofs.ChainDrawn.{Lies}
 use Rattle.calls.specs.Edits.{inZone}
 use Rattle.calls.specs.Holes.{hole, holes, gapFits, apart, allApart}
 use Rattle.calls.proofs.Kept.{All}
-use Rattle.calls.proofs.Entries.{In}
+use Rattle.calls.specs.Room.{In}
 use Rattle.calls.proofs.Gaps.{Gap, gap-of-test, test-of-gap, gap-le, isLong}
 
 -- apart, so one after another

@@ -3,7 +3,7 @@
 use mathlib.Core.Path.{_≡_, refl, sym, ap, _∙_, subst}
 use mathlib.Core.Bool.{Bool, true, false, not, _&&_}
 use mathlib.Core.List.{List, [], _∷_, _++_, map, map-append}
-use Prim.Native.Nat.{ℕ, _+_, _-_, _*_, _%_, _<_, _≤_}
+use Prim.Native.Nat.{ℕ, _+_, _*_, _%_, _≤_}
 use native.Mathlib.Omega.{arith}
 use lib.Dec.{eqb, ltb, leb}
 use lib.ListN.{length}
@@ -12,13 +12,13 @@ use Rattle.bits.proofs.Tests.{by-test, both, and-true}
 use Rattle.geometry.specs.declared.Geometry.{Geometry}
 use Rattle.geometry.specs.Accepted.{AcceptedGeometry}
 use Rattle.geometry.specs.Places.{discBits}
-use Rattle.model.specs.Chain.{Pair}
+use Rattle.model.specs.Chain.{Pair, numbersOf}
 use Rattle.model.specs.Pieces.{Piece, keep, isOf, piecesOf, late, rotate, objectPairs}
 use Rattle.model.proofs.ChainDrawn.{Lies}
 use Rattle.calls.specs.Order.{rank}
 use Rattle.calls.specs.Edits.{without, own, give, takes, gives}
 use Rattle.calls.specs.Holes.{allApart}
-use Rattle.calls.specs.Judge.{release, place, accepted, isEmpty, editable, pairsFrom, numbersOf, pairFits, pairsFit, listFits, judge}
+use Rattle.calls.specs.Judge.{release, place, accepted, isEmpty, editable, pairsFrom, pairFits, pairsFit, listFits, judge}
 use Rattle.calls.proofs.Kept.{All, all-kept, all-keep, keep-none, some-length}
 use Rattle.calls.proofs.Gaps.{isLong}
 use Rattle.calls.proofs.HolesLeft.{apart-all}

@@ -4,7 +4,7 @@ use mathlib.Core.Path.{_≡_, refl, sym, ap, ap₂, _∙_, subst}
 use mathlib.Core.Bool.{Bool, not}
 use mathlib.Core.List.{List, [], _∷_, _++_}
 use mathlib.Core.Logic.{_⊎_, inl, inr}
-use Prim.Native.Nat.{ℕ, suc, _+_, _≤_}
+use Prim.Native.Nat.{ℕ, suc, _≤_}
 use native.Mathlib.Omega.{arith}
 use borrow.Author.Tests.{eqb-true, eq-eqb}
 use Rattle.bits.proofs.Tests.{by-test}
@@ -12,7 +12,8 @@ use Rattle.geometry.specs.declared.Geometry.{Geometry}
 use Rattle.model.specs.Chain.{Pair}
 use Rattle.model.specs.Pieces.{Piece, keep, isOf, piecesOf, late, rotate, objectPairs}
 use Rattle.calls.specs.Order.{Ascending}
-use Rattle.calls.proofs.Entries.{In, in-append, in-keep, in-kept, in-map, map-in}
+use Rattle.calls.specs.Room.{In}
+use Rattle.calls.proofs.Entries.{in-append, in-keep, in-kept, in-map, map-in}
 
 append-in : {A : Type 0} (h : A) (xs ys : List A) → In h xs ⊎ In h ys → In h (xs ++ ys)
 append-in h [] ys (inl i) = absurd i

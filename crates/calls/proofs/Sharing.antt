@@ -9,18 +9,11 @@ use native.Mathlib.Omega.{arith}
 use lib.Dec.{ltb, leb}
 use borrow.Author.Tests.{ltb-true, ltb-false, leb-true, leb-false}
 use Rattle.bits.proofs.Tests.{by-test}
-use Rattle.model.specs.Chain.{Pair}
 use Rattle.model.specs.Pieces.{Piece, keep}
 use Rattle.model.proofs.ChainDrawn.{Lies}
 use Rattle.calls.specs.Edits.{insert, put}
-use Rattle.calls.proofs.Entries.{In, in-kept, insert-own, in-put, put-in}
-
--- bit d of the disc lies in a pair; no bit lies in both
-abbrev pub Within : Pair → ℕ → Type 0
-Within q d = (q .start ≤ d) × (d < q .start + q .len)
-
-abbrev pub ShareNone : Pair → Pair → Type 0
-ShareNone q p = (d : ℕ) → Within q d → Within p d → ⊥
+use Rattle.calls.specs.Room.{In, Within, ShareNone}
+use Rattle.calls.proofs.Entries.{in-kept, insert-own, in-put, put-in}
 
 -- where pieces lie that come one after another
 pub lies-from : (at end : ℕ) (l : List Piece) (p : Piece) → Lies at end l → In p l → (at ≤ p .at .start) × (0 < p .at .len) × (p .at .start + p .at .len ≤ end)

@@ -19,23 +19,16 @@ use Rattle.model.specs.Pieces.{Piece, late}
 use Rattle.model.proofs.ChainDrawn.{Lies}
 use Rattle.calls.specs.Order.{rank}
 use Rattle.calls.specs.Edits.{put, own, give, inZone}
-use Rattle.calls.specs.Holes.{holes, allApart}
+use Rattle.calls.specs.Holes.{allApart}
 use Rattle.calls.specs.Judge.{pairsFrom, pairFits, pairsFit, listFits}
 use Rattle.calls.proofs.Kept.{All, all-keep, all-put}
-use Rattle.calls.proofs.Entries.{In, all-in, in-keep, in-kept, in-map, map-in}
+use Rattle.calls.specs.Room.{In, Within, ShareNone, ListedFree, NoLeftover, RoomFor}
+use Rattle.calls.proofs.Entries.{all-in, in-keep, in-kept, in-map, map-in}
 use Rattle.calls.proofs.ByPlace.{keep-put-by-place}
 use Rattle.calls.proofs.Gaps.{isLong, all-apart-at}
 use Rattle.calls.proofs.HolesLeft.{apart-lies, apart-holes, lies-apart, apart-all}
 use Rattle.calls.proofs.Invariant.{FitPieces, some-bits, on-disc, in-zone, PairRule, pair-rule, list-long}
-use Rattle.calls.proofs.Sharing.{Within, ShareNone, lies-from, put-shares-none, Separate, separate-keep, lies-put}
-
--- "a listed bit isn't free": not so
-abbrev pub ListedFree : List Pair → List Piece → Type 0
-ListedFree qs l = (q : Pair) → In q qs → (p : Piece) → In p l → ShareNone q (p .at)
-
--- "a leftover of 1 to m-1 free bits": not so, where l are the pieces after the place
-abbrev pub NoLeftover : Geometry → List Piece → Type 0
-NoLeftover g l = (z : ℕ) → z < g .zones → (h : Pair) → In h (holes (zoneFrom g z) (zoneEnd g z) (inZone g z l)) → g .shortest ≤ h .len
+use Rattle.calls.proofs.Sharing.{lies-from, put-shares-none, Separate, separate-keep, lies-put}
 
 -- a pair that ends in its zone has all its bits there
 pub bit-zone : (g : Geometry) (q : Pair) (d : ℕ) → q .start + q .len ≤ zoneEnd g (zoneOf g (q .start)) → Within q d → zoneOf g d ≡ zoneOf g (q .start)
@@ -147,7 +140,6 @@ module _ (g : Geometry) (id : ℕ) (qs : List Pair) (l : List Piece) (ok : Accep
   )
 
 pub thirteen : (g : Geometry) (id : ℕ) (list : List ℕ) (l : List Piece) → AcceptedGeometry g → FitPieces g l → listFits g id list ≡ true
-    → (allApart g 0 (g .zones) (give id (pairsFrom list) l) ≡ true → ListedFree (pairsFrom list) l × NoLeftover g (give id (pairsFrom list) l))
-    × (ListedFree (pairsFrom list) l × NoLeftover g (give id (pairsFrom list) l) → allApart g 0 (g .zones) (give id (pairsFrom list) l) ≡ true)
+    → (allApart g 0 (g .zones) (give id (pairsFrom list) l) ≡ true → RoomFor g id list l) × (RoomFor g id list l → allApart g 0 (g .zones) (give id (pairsFrom list) l) ≡ true)
 thirteen g id list l ok fit h =
     pairs-thirteen g id (pairsFrom list) l ok fit ((both (ltb 0 (length list) && eqb (length list % 2) 0) (pairsFit g id 0 (pairsFrom list)) h) .1)

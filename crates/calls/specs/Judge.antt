@@ -47,11 +47,6 @@ pairsFrom [] = []
 pairsFrom (a ∷ []) = []
 pairsFrom (a ∷ b ∷ l) = record { start = a; len = b } ∷ pairsFrom l
 
--- pairs as the numbers of a list, as the listing calls write them
-abbrev pub numbersOf : List Pair → List ℕ
-numbersOf [] = []
-numbersOf (q ∷ qs) = q .start ∷ q .len ∷ numbersOf qs
-
 -- 12: "list empty, odd, out of object order, overlapping, a piece across zones or off the disc map, start or length not a
 -- multiple of k, length below m"
 abbrev pub pairFits : Geometry → Pair → Bool

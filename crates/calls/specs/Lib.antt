@@ -3,3 +3,4 @@ pub mod Edits
 pub mod Holes
 pub mod Judge
 pub mod Runs
+pub mod Room

@@ -15,10 +15,11 @@ use Rattle.geometry.specs.Record.{geometryOf}
 use Rattle.geometry.specs.Accepted.{AcceptedGeometry}
 use Rattle.geometry.specs.Answers.{refusal}
 use Rattle.model.specs.Chain.{Pair}
-use Rattle.model.specs.Verdict.{MapRead, entries, mapRead}
+use Rattle.model.specs.Verdict.{entries, mapRead}
 use Rattle.model.specs.Verdict as read
 use Rattle.map.specs.declared.Checked.the-variants as check
 use Rattle.map.specs.Checked.{answer, checked}
+use Rattle.map.proofs.Answers.{read-refused}
 use Rattle.map.specs.Accepted.{AcceptedMap}
 use Rattle.listing.specs.Held.{heldFrom}
 use Rattle.calls.specs.Edits.{gives}
@@ -31,7 +32,6 @@ use Rattle.runs.specs.Editable.{zonesOf, zonesIn, Editable}
 use Rattle.runs.proofs.Given.{given-placed}
 use Rattle.runs.proofs.MapAccepted.{map-disc}
 use Rattle.runs.proofs.RunsOnBytes.{step-refused, step-accepted}
-use Rattle.holes.specs.Touching as held
 use Rattle.holes.proofs.ZonesTouching.{zones-are}
 use Rattle.holes.proofs.HolesFree.{holes-are-free}
 use Rattle.claim.specs.declared.Claimed.the-variants as claimed
@@ -42,23 +42,18 @@ use Rattle.claim.proofs.LowestFound.{fit-pieces}
 claims : (m : List ℕ) (size : ℕ) (o : Outcome) → outcome m (claim size) ≡ o → Claims m size (answerOf o) (bytesAfter m o)
 claims m size o e = record { answer = ap answerOf (sym e); bytes = ap (bytesAfter m) (sym e) }
 
--- the check's own refusal
-read-refused : (g : Geometry) (q : MapRead) (r : Refusal) → answer g q ≡ check.Refused r → q ≡ read.refused (r .number) (r .zone)
-read-refused g (read.refused n z) r e = let k : refusal n z ≡ r = cc in ap (λ (x : Refusal). read.refused (x .number) (x .zone)) k
-read-refused g (read.entries ess) r e = let x : _≡_ {A = ℕ} 0 1 = cc in absurd (omega arith)
-
 pub check-refuses : (m : List ℕ) (size : ℕ) (r : Refusal) → checked m ≡ check.Refused r → Claims m size (claimed.Refused r) m
 check-refuses m size r e = claims m size (refused (r .number) (r .zone)) (ap (byRead m (claim size)) (read-refused (geometryOf m) (mapRead m) r e))
 
 module _ {m : List ℕ} {g : Geometry} (a : AcceptedMap m g) where
   -- 9
-  pub touching-refuses : (size z : ℕ) → touching 0 (held.zonesOf m) ≡ some z → Claims m size (claimed.Refused (refusal 9 z)) m
+  pub touching-refuses : (size z : ℕ) → touching 0 (zonesOf m) ≡ some z → Claims m size (claimed.Refused (refusal 9 z)) m
   touching-refuses size z e =
       claims m size (refused 9 z)
       (ap (byRead m (claim size)) (a .read) ∙ ap (byTouching (geometryOf m) (discOf m (a .zones)) (claim size)) (ap (touching 0) (sym (zones-are a)) ∙ e))
 
   -- a map that edits work on
-  pub can-edit : Bytes m → touching 0 (held.zonesOf m) ≡ none → Editable m
+  pub can-edit : Bytes m → touching 0 (zonesOf m) ≡ none → Editable m
   can-edit b e =
       let q : zonesOf m ≡ a .zones = ap zonesIn (a .read) in
       record { bytes = b; accepted = a .read ∙ ap entries (sym q); apart = ap (touching 0) (q ∙ sym (zones-are a)) ∙ e }

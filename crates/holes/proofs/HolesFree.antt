@@ -34,7 +34,7 @@ use Rattle.runs.proofs.ZoneFound.{drawn-zone}
 use Rattle.listing.specs.Held.{heldFrom}
 use Rattle.listing.proofs.HeldZones.{ReadInTurn, zones-in-turn}
 use Rattle.listing.proofs.FreeHeld.{free-spans}
-use Rattle.holes.specs.Touching.{zonesIn}
+use Rattle.runs.specs.Editable.{zonesIn}
 
 -- the gaps of a drawing are its free fragments
 free-gap : (at end : ℕ) (es : List Entry) → freeOf (gapEntry at end es) ≡ hole at end (freeOf es)

@@ -18,7 +18,8 @@ use Rattle.zone.proofs.ReadParts.{is-read}
 use Rattle.map.specs.Accepted.{AcceptedMap}
 use Rattle.listing.proofs.HeldZones.{ReadInTurn, zones-in-turn}
 use Rattle.runs.specs.Steps.{touching}
-use Rattle.holes.specs.Touching.{zonesIn, zonesOf, touchingOf}
+use Rattle.runs.specs.Editable.{zonesIn, zonesOf}
+use Rattle.holes.specs.Touching.{touchingOf}
 use Rattle.holes.specs.declared.Touching.the-variants as told
 
 -- from the answer to what it tells

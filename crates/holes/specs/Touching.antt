@@ -1,22 +1,11 @@
 -- Refusal 9: two free fragments of a zone touch. Assumes nothing.
-use mathlib.Core.Bool.{Bool, true, false, cond, not, _&&_}
+use mathlib.Core.Bool.{Bool, true, not, _&&_}
 use mathlib.Core.List.{List, [], _∷_}
 use mathlib.Core.Option.{Option, none, some}
 use Prim.Native.Nat.{ℕ}
 use lib.Dec.{eqb}
-use Rattle.model.specs.Chain.{Entry}
-use Rattle.model.specs.Verdict.{MapRead, refused, entries, mapRead}
-use Rattle.runs.specs.Steps.{touching}
 use Rattle.holes.specs.declared.Touching.{Touching}
 use Rattle.holes.specs.declared.Touching.the-variants as found
-
--- the entries of a map's zones; none where it is refused
-abbrev pub zonesIn : MapRead → List (List Entry)
-zonesIn (refused n z) = []
-zonesIn (entries ess) = ess
-
-abbrev pub zonesOf : List ℕ → List (List Entry)
-zonesOf m = zonesIn (mapRead m)
 
 abbrev pub touchingOf : Option ℕ → Touching
 touchingOf none = found.None

@@ -11,7 +11,8 @@ ghost use Rattle.map.specs.Accepted.{AcceptedMap};
 ghost use Rattle.listing.specs.Held.{ReadZone, pairsIn, heldBy, inDiscBits, heldFrom};
 ghost use Rattle.calls.specs.Judge.{firstHole};
 ghost use Rattle.runs.specs.Steps.{touching};
-ghost use Rattle.holes.specs.Touching.{zonesOf, touchingOf, apartLines};
+ghost use Rattle.runs.specs.Editable.{zonesOf};
+ghost use Rattle.holes.specs.Touching.{touchingOf, apartLines};
 ghost use Rattle.holes.specs.Hole.{holeOf};
 
 // The lowest zone in which two free fragments touch.

@@ -18,15 +18,16 @@ use Rattle.geometry.specs.Record.{geometryOf}
 use Rattle.geometry.specs.Places.{idFrom, startZone}
 use Rattle.geometry.specs.Answers.{refusal, byName, startOf}
 use Rattle.geometry.proofs.Starts.{start-in-range}
-use Rattle.model.specs.Chain.{Pair}
-use Rattle.model.specs.Verdict.{MapRead, mapRead}
+use Rattle.model.specs.Chain.{Pair, numbersOf}
+use Rattle.model.specs.Verdict.{mapRead}
 use Rattle.model.specs.Verdict as read
 use Rattle.model.specs.Pieces.{piecesOfZones, objectPairs}
 use Rattle.map.specs.Accepted.{AcceptedMap}
 use Rattle.map.specs.Checked.{answer, checked}
+use Rattle.map.proofs.Answers.{read-refused}
 use Rattle.map.specs.declared.Checked.the-variants as check
 use Rattle.listing.specs.declared.Listed.the-variants as listed
-use Rattle.listing.specs.Held.{heldFrom, numbersOf}
+use Rattle.listing.specs.Held.{heldFrom}
 use Rattle.listing.specs.Listed.{PairsFound, found, refused, withRoom, present, objectRead, objectFound, freeRead, freeFound, Lists}
 use Rattle.listing.proofs.Stored.{stored-append, stored-first}
 use Rattle.listing.proofs.HeldZones.{held-all}
@@ -56,11 +57,6 @@ absent room (q ∷ qs) k = absurd (omega arith)
 there : (room : ℕ) (qs : List Pair) → (length qs ≡ 0 → ⊥) → present room qs ≡ withRoom room qs
 there room [] k = absurd (k refl)
 there room (q ∷ qs) k = refl
-
--- the check's own refusal
-read-refused : (g : Geometry) (q : MapRead) (r : Refusal) → answer g q ≡ check.Refused r → q ≡ read.refused (r .number) (r .zone)
-read-refused g (read.refused n z) r e = let k : refusal n z ≡ r = cc in ap (λ (x : Refusal). read.refused (x .number) (x .zone)) k
-read-refused g (read.entries ess) r e = let x : _≡_ {A = ℕ} 0 1 = cc in absurd (omega arith)
 
 module _ (m old : List ℕ) (r : Refusal) (e : checked m ≡ check.Refused r) where
   pub check-refuses-free : Lists (freeFound m (length old)) old (listed.Refused r) old

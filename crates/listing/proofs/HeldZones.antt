@@ -11,7 +11,7 @@ use lib.Seq.{sets}
 use borrow.Author.Tests.{ltb-true, ltb-false}
 use Rattle.bits.proofs.Tests.{by-test}
 use Rattle.geometry.specs.declared.Geometry.{Geometry}
-use Rattle.model.specs.Chain.{Pair, Entry}
+use Rattle.model.specs.Chain.{Pair, Entry, numbersOf}
 use Rattle.model.specs.Rules.{zoneBlock}
 use Rattle.model.specs.Verdict.{good, zoneRead}
 use Rattle.model.proofs.ByPlace.{block-length}
@@ -20,7 +20,7 @@ use Rattle.zone.proofs.ReadParts.{is-read}
 use Rattle.zone.proofs.Few.{few}
 use Rattle.map.specs.Accepted.{AcceptedMap}
 use Rattle.map.proofs.Accepts.{ReadFrom, from-start, from-turn, from-end}
-use Rattle.listing.specs.Held.{ReadZone, heldBy, heldIn, heldFrom, numbersOf}
+use Rattle.listing.specs.Held.{ReadZone, heldBy, heldIn, heldFrom}
 use Rattle.listing.proofs.Stored.{StoredSoFar, stored-room, stored-turn}
 use Rattle.listing.proofs.Lines.{length-held}
 

@@ -11,11 +11,11 @@ use lib.ListN.{length, getD, take, drop, length-append, length-map, drop-of-leng
 use lib.Seq.{sets, drop-cons, getD-take, length-take-le, take-at}
 use Rattle.bits.proofs.Tests.{by-test}
 use Rattle.geometry.specs.declared.Geometry.{Geometry}
-use Rattle.model.specs.Chain.{Pair, Entry}
+use Rattle.model.specs.Chain.{Pair, Entry, numbersOf}
 use Rattle.model.specs.Pieces.{toDisc}
 use Rattle.zone.specs.Lines.{lines, holderNumber}
 use Rattle.zone.proofs.ListWalk.{length-lines}
-use Rattle.listing.specs.Held.{pairsIn, heldBy, inDiscBits, numbersOf}
+use Rattle.listing.specs.Held.{pairsIn, heldBy, inDiscBits}
 use Rattle.listing.proofs.Stored.{StoredSoFar, stored-room, stored-turn}
 
 -- a pair if it is wanted

@@ -9,8 +9,7 @@ use native.Mathlib.Numerals.{add-one}
 use native.Mathlib.Omega.{arith}
 use lib.ListN.{length, drop, set, length-append}
 use lib.Seq.{sets, length-sets, sets-eq}
-use Rattle.model.specs.Chain.{Pair}
-use Rattle.listing.specs.Held.{numbersOf}
+use Rattle.model.specs.Chain.{Pair, numbersOf}
 
 pub length-numbers : (qs : List Pair) → length (numbersOf qs) ≡ 2 * length qs
 length-numbers [] = refl

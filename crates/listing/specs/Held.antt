@@ -43,8 +43,3 @@ heldIn g h m z = inDiscBits g z (heldBy h (entriesIn g z (zoneBlock g m z)))
 abbrev pub heldFrom : Geometry → ℕ → List ℕ → ℕ → ℕ → List Pair
 heldFrom g h m z zero = []
 heldFrom g h m z (suc n) = heldIn g h m z ++ heldFrom g h m (suc z) n
-
--- pairs as the numbers of a list
-abbrev pub numbersOf : List Pair → List ℕ
-numbersOf [] = []
-numbersOf (q ∷ qs) = q .start ∷ q .len ∷ numbersOf qs

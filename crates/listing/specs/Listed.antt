@@ -10,11 +10,10 @@ use Rattle.geometry.specs.declared.Geometry.{Geometry}
 use Rattle.geometry.specs.Record.{geometryOf}
 use Rattle.geometry.specs.Places.{idFrom}
 use Rattle.geometry.specs.Answers.{refusal}
-use Rattle.model.specs.Chain.{Pair}
+use Rattle.model.specs.Chain.{Pair, numbersOf}
 use Rattle.model.specs.Verdict.{MapRead, mapRead}
 use Rattle.model.specs.Verdict as read
 use Rattle.model.specs.Pieces.{piecesOfZones, objectPairs, freeSpans}
-use Rattle.listing.specs.Held.{numbersOf}
 use Rattle.listing.specs.declared.Listed.{Listed}
 use Rattle.listing.specs.declared.Listed.the-variants as listed
 

@@ -11,9 +11,10 @@ ghost use Prim.Native.Nat.{ℕ, _+_, _-_, _*_, _<_, _≤_};
 ghost use lib.Dec.{eqb};
 ghost use lib.ListN.{length, take};
 ghost use lib.Seq.{sets};
+ghost use Rattle.model.specs.Chain.{numbersOf};
 ghost use Rattle.map.specs.Accepted.{AcceptedMap};
 ghost use Rattle.zone.specs.Lines.{entriesIn};
-ghost use Rattle.listing.specs.Held.{ReadZone, pairsIn, heldBy, inDiscBits, heldFrom, numbersOf};
+ghost use Rattle.listing.specs.Held.{ReadZone, pairsIn, heldBy, inDiscBits, heldFrom};
 ghost use Rattle.listing.specs.Listed.{objectFound, freeFound, Lists};
 ghost use Rattle.listing.specs.Laws.{ListingLaws};
 

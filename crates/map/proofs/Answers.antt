@@ -16,10 +16,15 @@ use Rattle.geometry.specs.Record.{discRecord, geometryOf}
 use Rattle.geometry.specs.Ranges.{recordFits}
 use Rattle.geometry.specs.Answers.{refusal, recordOf}
 use Rattle.geometry.proofs.Read.{accepted-says, refused-says}
-use Rattle.model.specs.Verdict.{refused, zonesRead, badCheck, crossSum, afterChecks, blocksRead, blocksOf}
+use Rattle.model.specs.Verdict.{MapRead, refused, entries, zonesRead, badCheck, crossSum, afterChecks, blocksRead, blocksOf}
 use Rattle.map.specs.Checked.{answer, checked, firstBad}
 use Rattle.map.specs.declared.Checked.the-variants.{Accepted, Refused}
 use Rattle.map.specs.declared.FirstBad.the-variants as bad
+
+-- a map that the check refuses was read so
+pub read-refused : (g : Geometry) (q : MapRead) (r : Refusal) → answer g q ≡ Refused r → q ≡ refused (r .number) (r .zone)
+read-refused g (refused n z) r e = let k : refusal n z ≡ r = cc in ap (λ (x : Refusal). refused (x .number) (x .zone)) k
+read-refused g (entries ess) r e = let x : _≡_ {A = ℕ} 0 1 = cc in absurd (omega arith)
 
 -- the record and the length
 module _ (m : List ℕ) where

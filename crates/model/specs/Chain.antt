@@ -13,6 +13,11 @@ pub record Pair : Type 0 where
   pub start : ℕ
   pub len : ℕ
 
+-- pairs as the numbers of a list: "disc bit, length in map bits"
+abbrev pub numbersOf : List Pair → List ℕ
+numbersOf [] = []
+numbersOf (q ∷ qs) = q .start ∷ q .len ∷ numbersOf qs
+
 pub data Holder : Type 0 where
   free : Holder
   owned : ℕ → Holder

@@ -18,10 +18,11 @@ use Rattle.geometry.specs.Record.{geometryOf}
 use Rattle.geometry.specs.Places.{startZone, idFrom}
 use Rattle.geometry.specs.Answers.{refusal, byName, startOf}
 use Rattle.geometry.proofs.Starts.{start-in-range}
-use Rattle.model.specs.Verdict.{MapRead, mapRead}
+use Rattle.model.specs.Verdict.{mapRead}
 use Rattle.model.specs.Verdict as read
 use Rattle.model.specs.Pieces.{piecesOfZones}
 use Rattle.map.specs.Checked.{answer, checked}
+use Rattle.map.proofs.Answers.{read-refused}
 use Rattle.map.specs.Accepted.{AcceptedMap}
 use Rattle.map.specs.declared.Checked.the-variants as check
 use Rattle.listing.specs.Held.{heldFrom}
@@ -31,7 +32,8 @@ use Rattle.calls.specs.Judge.{editable, listFits, pairsFit, judge, pairsFrom}
 use Rattle.calls.specs.Judge as judged
 use Rattle.runs.specs.Steps.{touching, discOf, refused, byRead, outcome, bytesAfter, step}
 use Rattle.runs.proofs.RunsOnBytes.{step-refused, step-accepted}
-use Rattle.holes.specs.Touching.{zonesOf, touchingOf}
+use Rattle.runs.specs.Editable.{zonesOf}
+use Rattle.holes.specs.Touching.{touchingOf}
 use Rattle.holes.specs.declared.Touching.the-variants as told
 use Rattle.holes.proofs.ZonesTouching.{zones-are, none-told, zone-told}
 use Rattle.place.specs.declared.Placed.the-variants as placed
@@ -44,11 +46,6 @@ use Rattle.place.proofs.Absent.{absent, present}
 
 refusal-places : (m : List ℕ) (id : ℕ) (list : List ℕ) (n z : ℕ) → outcome m (judged.place id list) ≡ refused n z → Places m id list (placed.Refused (refusal n z)) m
 refusal-places m id list n z e = record { answer = sym (ap answerOf e); bytes = sym (ap (bytesAfter m) e) }
-
--- 1 to 7: the check's own
-read-refused : (g : Geometry) (q : MapRead) (r : Refusal) → answer g q ≡ check.Refused r → q ≡ read.refused (r .number) (r .zone)
-read-refused g (read.refused n z) r e = let k : refusal n z ≡ r = cc in ap (λ (x : Refusal). read.refused (x .number) (x .zone)) k
-read-refused g (read.entries ess) r e = let x : _≡_ {A = ℕ} 0 1 = cc in absurd (omega arith)
 
 pub check-refuses : (m : List ℕ) (id : ℕ) (list : List ℕ) (r : Refusal) → checked m ≡ check.Refused r → Places m id list (placed.Refused r) m
 check-refuses m id list r e =

@@ -31,7 +31,7 @@ use Rattle.calls.proofs.Invariant.{FitPieces, some-bits}
 use Rattle.runs.specs.Steps.{touching, discOf}
 use Rattle.runs.proofs.MapAccepted.{map-geometry, map-disc}
 use Rattle.runs.proofs.ZonesAfter.{zone-pieces-at}
-use Rattle.holes.specs.Touching.{zonesOf}
+use Rattle.runs.specs.Editable.{zonesOf}
 use Rattle.holes.proofs.ZonesTouching.{zones-are}
 use Rattle.place.specs.Merged.{ownedInZone}
 use Rattle.place.specs.Asked.{EditableMap, piecesOn}

@@ -9,8 +9,6 @@ pub mod MergeTurns
 pub mod ZoneJudged
 pub mod ApartZones
 pub mod ZonesJudged
-pub mod BlockPut
-pub mod WrittenBelow
 pub mod PlacedZones
 pub mod ZonesGiven
 pub mod Absent

@@ -8,8 +8,8 @@ use native.Mathlib.Omega.{arith}
 use lib.Dec.{ltb, leb}
 use lib.ListN.{length, getD, take, drop, length-append, length-drop}
 use lib.Seq.{take-at, drop-at, drop-drop}
-use Rattle.model.specs.Chain.{Pair}
-use Rattle.calls.specs.Judge.{pairsFrom, numbersOf}
+use Rattle.model.specs.Chain.{Pair, numbersOf}
+use Rattle.calls.specs.Judge.{pairsFrom}
 use Rattle.calls.proofs.Returned.{pairs-numbers, length-numbers}
 use Rattle.writer.proofs.ListedPairs.{no-pairs, next-pairs}
 use Rattle.place.specs.Parts.{leading}

@@ -25,7 +25,7 @@ use Rattle.runs.specs.Steps.{touching, discOf, step}
 use Rattle.runs.proofs.ZonesTouched.{changeAt}
 use Rattle.runs.proofs.ZonesAfter.{zone-given, zone-untouched, given-drawable}
 use Rattle.runs.proofs.RunsOnBytes.{length-kept}
-use Rattle.holes.specs.Touching.{zonesOf}
+use Rattle.runs.specs.Editable.{zonesOf}
 use Rattle.holes.proofs.ZonesTouching.{zones-are}
 use Rattle.place.specs.Asked.{EditableMap, piecesOn}
 use Rattle.place.proofs.ApartZones.{entries-at, zones-apart}

@@ -13,8 +13,8 @@ use Rattle.bits.proofs.Tests.{by-test}
 use Rattle.geometry.specs.declared.Geometry.{Geometry}
 use Rattle.geometry.specs.Accepted.{AcceptedGeometry}
 use Rattle.geometry.specs.Places.{zoneOf, zoneFrom, zoneEnd}
-use Rattle.model.specs.Chain.{Pair}
-use Rattle.calls.specs.Judge.{pairsFrom, numbersOf}
+use Rattle.model.specs.Chain.{Pair, numbersOf}
+use Rattle.calls.specs.Judge.{pairsFrom}
 use Rattle.calls.proofs.Invariant.{in-zone, some-zone}
 use Rattle.place.specs.Parts.{leading, Rising, Before, zonePairs, IsPart, PartsLeft}
 use Rattle.place.proofs.SmallTests.{next-zone}

@@ -38,8 +38,8 @@ use Rattle.writer.specs.ZoneEdit.{ZoneEdit, listedPieces, editedPieces}
 use Rattle.place.specs.Parts.{Rising, IsPart, Walking}
 use Rattle.place.specs.Asked.{WriteAsks, zoneAfter}
 use Rattle.place.proofs.ZonesJudged.{zone-listed, part-pairs, part-even, part-rising, part-some, part-touches, count-turn}
-use Rattle.place.proofs.BlockPut.{putBlock}
-use Rattle.place.proofs.WrittenBelow.{WrittenBelow, written-starts, next-block, written-ends, written-turn}
+use Rattle.runs.proofs.BlockPut.{putBlock}
+use Rattle.runs.proofs.WrittenBelow.{WrittenBelow, written-starts, next-block, written-ends, written-turn}
 use Rattle.place.proofs.PlacedZones.{zonePieces, PlacedZones, placed-zones}
 
 -- one zone, without pairs or with some

@@ -19,7 +19,7 @@ use Rattle.runs.specs.Written.{written}
 use Rattle.runs.specs.Steps.{touching}
 use Rattle.map.specs.Accepted.{AcceptedMap}
 use Rattle.listing.specs.Held.{ReadZone}
-use Rattle.holes.specs.Touching.{zonesOf}
+use Rattle.runs.specs.Editable.{zonesOf}
 use Rattle.writer.specs.ZoneEdit.{editedPieces}
 use Rattle.place.specs.Parts.{Rising, Walking}
 use Rattle.place.specs.Merged.{ownedInZone}

@@ -7,9 +7,9 @@ use lib.Dec.{eqb, ltb, leb}
 use lib.ListN.{length, take, drop}
 use Rattle.geometry.specs.declared.Geometry.{Geometry}
 use Rattle.geometry.specs.Places.{zoneOf, zoneFrom, discBits}
-use Rattle.model.specs.Chain.{Pair}
+use Rattle.model.specs.Chain.{Pair, numbersOf}
 use Rattle.model.specs.Pieces.{keep}
-use Rattle.calls.specs.Judge.{pairsFrom, numbersOf, pairFits}
+use Rattle.calls.specs.Judge.{pairsFrom, pairFits}
 
 abbrev pub pair : ℕ → ℕ → Pair
 pair start len = record { start = start; len = len }

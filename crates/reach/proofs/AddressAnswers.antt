@@ -19,11 +19,12 @@ use Rattle.geometry.specs.Answers.{refusal, byName, startOf}
 use Rattle.geometry.proofs.Bits.{disc-bits-small}
 use Rattle.geometry.proofs.Starts.{start-in-range}
 use Rattle.model.specs.Chain.{Pair}
-use Rattle.model.specs.Verdict.{MapRead, mapRead}
+use Rattle.model.specs.Verdict.{mapRead}
 use Rattle.model.specs.Verdict as read
 use Rattle.model.specs.Pieces.{piecesOfZones, objectPairs}
 use Rattle.map.specs.Accepted.{AcceptedMap}
-use Rattle.map.specs.Checked.{answer, checked}
+use Rattle.map.specs.Checked.{checked}
+use Rattle.map.proofs.Answers.{read-refused}
 use Rattle.map.specs.declared.Checked.the-variants as check
 use Rattle.listing.specs.Held.{heldFrom}
 use Rattle.listing.proofs.HeldZones.{held-all}
@@ -56,11 +57,6 @@ module _ (unit : ℕ) (late early : List Pair) (i : ℕ) where
     pub past-both : (l : ℕ) {q : Seek} → q ≡ seekOf (seek unit early j) → q ≡ found.Past l
         → reached.Refused (refusal 16 0) ≡ addressAnswer (within (seek unit (late ++ early) i))
     past-both l eq h = ap (λ s. addressAnswer (within s)) (sym (on-early ∙ found-past (seek unit early j) l (sym eq ∙ h)))
-
--- the check's own refusal
-pub read-refused : (g : Geometry) (q : MapRead) (r : Refusal) → answer g q ≡ check.Refused r → q ≡ read.refused (r .number) (r .zone)
-read-refused g (read.refused n z) r e = let k : refusal n z ≡ r = cc in ap (λ (x : Refusal). read.refused (x .number) (x .zone)) k
-read-refused g (read.entries ess) r e = let x : _≡_ {A = ℕ} 0 1 = cc in absurd (omega arith)
 
 pub check-refuses : (m : List ℕ) (n position : ℕ) (r : Refusal) → checked m ≡ check.Refused r → reached.Refused r ≡ addressAnswer (addressFound m n position)
 check-refuses m n position r e = ap (λ q. addressAnswer (addressRead (geometryOf m) n position q)) (sym (read-refused (geometryOf m) (mapRead m) r e))

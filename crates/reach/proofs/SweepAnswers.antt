@@ -27,7 +27,7 @@ use Rattle.reach.specs.Sweep.{sweptBytes, ClassFound, class, refused, on
 use Rattle.reach.specs.Parts.{pairCounts}
 use Rattle.reach.proofs.ApartCounts.{counts-apart}
 use Rattle.reach.proofs.ObjectHeld.{object-held}
-use Rattle.reach.proofs.AddressAnswers.{read-refused}
+use Rattle.map.proofs.Answers.{read-refused}
 
 refusal-sweeps : (f : ClassFound) (first fill : ℕ) (old : List ℕ) (n z : ℕ) → f ≡ refused n z → Sweeps f first fill old (swept.Refused (refusal n z)) old
 refusal-sweeps f first fill old n z e = rw e (record { answer = refl; image = refl })

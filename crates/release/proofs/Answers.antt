@@ -16,21 +16,22 @@ use Rattle.geometry.specs.declared.Refusal.{Refusal}
 use Rattle.geometry.specs.Record.{geometryOf}
 use Rattle.geometry.specs.Answers.{refusal}
 use Rattle.model.specs.Chain.{Entry}
-use Rattle.model.specs.Verdict.{MapRead, entries, mapRead}
+use Rattle.model.specs.Verdict.{entries, mapRead}
 use Rattle.model.specs.Verdict as read
 use Rattle.model.specs.Pieces.{objectPairs}
 use Rattle.map.specs.Accepted.{AcceptedMap}
 use Rattle.map.specs.Checked.{answer, checked}
+use Rattle.map.proofs.Answers.{read-refused}
 use Rattle.map.specs.declared.Checked.the-variants as check
 use Rattle.calls.specs.Judge.{editable}
 use Rattle.calls.specs.Judge as call
 use Rattle.runs.specs.Steps.{touching, discOf, refused, byRead, outcome, bytesAfter, step}
-use Rattle.runs.specs.Editable.{zonesIn, Editable}
+use Rattle.runs.specs.Editable.{zonesIn, zonesOf, Editable}
 use Rattle.listing.specs.Listed.{PairsFound, present, objectFound, Lists}
 use Rattle.listing.specs.Listed as list
 use Rattle.listing.specs.declared.Listed.{Listed}
 use Rattle.listing.specs.declared.Listed.the-variants as listed
-use Rattle.holes.specs.Touching as holes
+use Rattle.holes.specs.Touching.{touchingOf}
 use Rattle.holes.specs.declared.Touching.the-variants as told
 use Rattle.holes.proofs.ZonesTouching.{none-told, zone-told, zones-are}
 use Rattle.release.specs.Released.{answerOf, listAfter, Releases}
@@ -41,11 +42,6 @@ use Rattle.release.proofs.ListedVerdict.{verdictOf, outcomeOf, judged-a
 
 refusal-releases : (m : List ℕ) (id : ℕ) (old : List ℕ) (n z : ℕ) → outcome m (call.release id (length old)) ≡ refused n z → Releases m id old (listed.Refused (refusal n z)) m old
 refusal-releases m id old n z e = record { answer = sym (ap answerOf e); bytes = sym (ap (bytesAfter m) e); list = sym (ap (listAfter old) e) }
-
--- 1 to 7: the check's own
-read-refused : (g : Geometry) (q : MapRead) (r : Refusal) → answer g q ≡ check.Refused r → q ≡ read.refused (r .number) (r .zone)
-read-refused g (read.refused n z) r e = let k : refusal n z ≡ r = cc in ap (λ (x : Refusal). read.refused (x .number) (x .zone)) k
-read-refused g (read.entries ess) r e = let x : _≡_ {A = ℕ} 0 1 = cc in absurd (omega arith)
 
 pub check-refuses : (m : List ℕ) (id : ℕ) (old : List ℕ) (r : Refusal) → checked m ≡ check.Refused r → Releases m id old (listed.Refused r) m old
 check-refuses m id old r e =
@@ -68,20 +64,20 @@ module _ {m : List ℕ} {g : Geometry} (a : AcceptedMap m g) (id : ℕ) (old : L
   id-above l h = eight (rw (le-leb 3 id l, le-ltb id (g .ids * g .zones) h))
 
   -- 9: "two free fragments of a zone touch"
-  pub touching-refuses : editable g id ≡ true → (z : ℕ) → holes.touchingOf (touching 0 (holes.zonesOf m)) ≡ told.Zone z → Releases m id old (listed.Refused (refusal 9 z)) m old
+  pub touching-refuses : editable g id ≡ true → (z : ℕ) → touchingOf (touching 0 (zonesOf m)) ≡ told.Zone z → Releases m id old (listed.Refused (refusal 9 z)) m old
   touching-refuses e z t =
       let f : editable (geometryOf m) id ≡ true = subst (λ (x : Geometry). editable x id ≡ true) (a .geometry) e in
-      let k : touching 0 (a .zones) ≡ some z = ap (touching 0) (sym (zones-are a)) ∙ zone-told (touching 0 (holes.zonesOf m)) z t in
+      let k : touching 0 (a .zones) ≡ some z = ap (touching 0) (sym (zones-are a)) ∙ zone-told (touching 0 (zonesOf m)) z t in
       refusal-releases m id old 9 z (ap (byRead m (call.release id (length old))) (a .read) ∙ rw (f, k))
 
 -- where neither refuses, the map is one that edits work on
-pub map-editable : {m : List ℕ} {g : Geometry} (a : AcceptedMap m g) → Bytes m → holes.touchingOf (touching 0 (holes.zonesOf m)) ≡ told.None → Editable m
+pub map-editable : {m : List ℕ} {g : Geometry} (a : AcceptedMap m g) → Bytes m → touchingOf (touching 0 (zonesOf m)) ≡ told.None → Editable m
 map-editable {m} a b t =
     let e : zonesIn (mapRead m) ≡ a .zones = ap zonesIn (a .read) in
     record {
       bytes = b;
       accepted = a .read ∙ ap entries (sym e);
-      apart = ap (touching 0) (e ∙ sym (zones-are a)) ∙ none-told (touching 0 (holes.zonesOf m)) t;
+      apart = ap (touching 0) (e ∙ sym (zones-are a)) ∙ none-told (touching 0 (zonesOf m)) t;
     }
 
 -- the answer and the list are the listing's

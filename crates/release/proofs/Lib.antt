@@ -1,5 +1,3 @@
-pub mod BlockPut
-pub mod WrittenBelow
 pub mod ZoneCounted
 pub mod TouchedZones
 pub mod Releasing

@@ -23,8 +23,8 @@ use Rattle.runs.specs.Editable.{zonesIn, Editable}
 use Rattle.runs.proofs.ZonesAfter.{released-drawable}
 use Rattle.writer.specs.ZoneEdit.{ZoneEdit}
 use Rattle.release.specs.Zones.{touchedIn, touchedBelow, zoneAfter, ReleasedMap}
-use Rattle.release.proofs.BlockPut.{putBlock}
-use Rattle.release.proofs.WrittenBelow.{WrittenBelow, written-starts, next-block, written-turn, written-ends}
+use Rattle.runs.proofs.BlockPut.{putBlock}
+use Rattle.runs.proofs.WrittenBelow.{WrittenBelow, written-starts, next-block, written-turn, written-ends}
 use Rattle.release.proofs.TouchedZones.{below-turn, below-few, zone-entries}
 
 -- the two ways to say that no two free fragments touch

@@ -1,14 +1,14 @@
 -- What a release answers, and what it leaves in the map and in the lent list (document 01, "Release", refusals 8, 9, 10, 17).
 -- Assumes nothing.
 use mathlib.Core.Path.{_≡_}
-use mathlib.Core.List.{List, [], _∷_, _++_}
+use mathlib.Core.List.{List, _++_}
 use Prim.Native.Nat.{ℕ, _*_}
 use lib.ListN.{length, drop}
 use Rattle.geometry.specs.Answers.{refusal}
+use Rattle.model.specs.Chain.{numbersOf}
 use Rattle.calls.specs.Edits.{pairsIn}
 use Rattle.calls.specs.Judge as call
 use Rattle.runs.specs.Steps.{Outcome, refused, done, outcome, step}
-use Rattle.listing.specs.Held.{numbersOf}
 use Rattle.listing.specs.declared.Listed.{Listed}
 use Rattle.listing.specs.declared.Listed.the-variants as listed
 

@@ -21,7 +21,7 @@ use Rattle.calls.specs.Edits.{own, inZone}
 use Rattle.calls.specs.Holes.{hole, holes, holesFrom}
 use Rattle.calls.specs.Judge.{pairFits, pairsFit, need, firstHole, taken}
 use Rattle.calls.proofs.Kept.{All, all-keep}
-use Rattle.calls.proofs.Entries.{In}
+use Rattle.calls.specs.Room.{In}
 use Rattle.calls.proofs.ClaimFits.{first-in, in-holes}
 use Rattle.runs.proofs.Clusters.{add-whole, sub-whole, isWhole, start-whole, len-whole, is-whole, from-whole, to-whole}
 

@@ -1,10 +1,10 @@
 -- What an accepted call that gives pairs has tested: its id is an ordinary one, it gives some pairs, and a place of the same pairs under
 -- the same id is accepted too. So a claim is the place of its pair.
 use mathlib.Core.Path.{_≡_, refl, sym, ap, _∙_, subst}
-use mathlib.Core.Bool.{Bool, true, false, cond, not, _&&_, false≢true}
-use mathlib.Core.List.{List, [], _∷_, map}
+use mathlib.Core.Bool.{true, not, _&&_}
+use mathlib.Core.List.{List, [], _∷_}
 use mathlib.Core.Option.{Option, none, some}
-use Prim.Native.Nat.{ℕ, zero, suc, _+_, _-_, _*_, _%_, _<_, _≤_}
+use Prim.Native.Nat.{ℕ, zero, suc, _-_, _*_, _%_, _<_, _≤_}
 use native.Mathlib.Omega.{arith}
 use lib.Dec.{eqb, ltb, leb}
 use lib.ListN.{length}
@@ -12,16 +12,16 @@ use borrow.Author.Tests.{eqb-true, eq-eqb, ltb-true, lt-ltb, le-leb}
 use Rattle.bits.proofs.Tests.{by-test, both, and-true}
 use Rattle.geometry.specs.declared.Geometry.{Geometry}
 use Rattle.geometry.specs.Accepted.{AcceptedGeometry}
-use Rattle.model.specs.Chain.{Pair}
+use Rattle.model.specs.Chain.{Pair, numbersOf}
 use Rattle.model.specs.Pieces.{Piece, piecesOf, objectPairs}
 use Rattle.model.proofs.Options.{none-some, some-some}
-use Rattle.calls.specs.Edits.{Disc, give, Edit, takes, gives, edit}
+use Rattle.calls.specs.Edits.{Disc, give, Edit, takes, gives}
 use Rattle.calls.specs.Holes.{holesFrom, allApart}
-use Rattle.calls.specs.Judge.{Call, release, place, claim, Verdict, accepted, unless, isEmpty, editable, pairsFrom, numbersOf, pairsFit, listFits, need, firstHole, taken, lowest, claimIn, judge}
+use Rattle.calls.specs.Judge.{Call, release, place, claim, accepted, unless, isEmpty, editable, pairsFrom, pairsFit, listFits, need, firstHole, taken, lowest, claimIn, judge}
 use Rattle.calls.proofs.Kept.{some-length}
 use Rattle.calls.proofs.HolesLeft.{apart-all}
-use Rattle.calls.proofs.Undo.{Allowed, read-back}
-use Rattle.calls.proofs.RunsKept.{unless-inv, same-edit, lowest-lt, allowed}
+use Rattle.calls.proofs.Undo.{read-back}
+use Rattle.calls.proofs.RunsKept.{unless-inv, lowest-lt, allowed}
 use Rattle.calls.proofs.Returned.{listed-fits, pairs-numbers, length-numbers}
 use Rattle.runs.proofs.PiecesKept.{AcceptedPieces, accepted-edit}
 

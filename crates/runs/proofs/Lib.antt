@@ -25,3 +25,6 @@ pub mod EditsOf
 pub mod EveryRun
 pub mod Given
 pub mod StepLaws
+pub mod EditsRefused
+pub mod BlockPut
+pub mod WrittenBelow

@@ -10,10 +10,10 @@ use lib.ListN.{length, length-append, length-map}
 use Rattle.geometry.specs.declared.Geometry.{Geometry}
 use Rattle.geometry.specs.Record.{geometryOf}
 use Rattle.geometry.specs.Accepted.{AcceptedGeometry}
-use Rattle.model.specs.Chain.{Pair}
+use Rattle.model.specs.Chain.{Pair, numbersOf}
 use Rattle.model.specs.Pieces.{Piece, keep, piecesOf, late, rotate, objectPairs}
 use Rattle.calls.specs.Edits.{Disc, without, give, Edit, takes, gives, edit}
-use Rattle.calls.specs.Judge.{Call, release, place, claim, Verdict, unless, isEmpty, editable, numbersOf, judge, obey}
+use Rattle.calls.specs.Judge.{Call, release, place, claim, Verdict, unless, isEmpty, editable, judge, obey}
 use Rattle.calls.specs.Judge as judged
 use Rattle.calls.specs.Runs.{edits, Undone, nothing, strike, released, restored}
 use Rattle.calls.specs.Runs as onPieces

@@ -7,11 +7,11 @@ use lib.ListN.{length, getD}
 use Rattle.checks.specs.Cross.{crossOf}
 use Rattle.geometry.specs.declared.Geometry.{Geometry}
 use Rattle.geometry.specs.Record.{geometryOf}
-use Rattle.model.specs.Chain.{Pair}
+use Rattle.model.specs.Chain.{Pair, numbersOf}
 use Rattle.model.specs.Rules.{CheckRule, zoneBlock}
 use Rattle.model.specs.Verdict.{blocksOf}
 use Rattle.calls.specs.Edits.{Disc, Edit, takes, gives, pairsIn}
-use Rattle.calls.specs.Judge.{Call, release, place, claim, numbersOf}
+use Rattle.calls.specs.Judge.{Call, release, place, claim}
 use Rattle.calls.specs.Runs.{Undone, crossRun}
 use Rattle.runs.specs.Steps.{Outcome, refused, done, outcome, step, steps}
 use Rattle.runs.specs.Editable.{Editable, listedOn, ReadsAfter}

@@ -2,3 +2,4 @@ pub mod Written
 pub mod Steps
 pub mod Editable
 pub mod Demand3
+pub mod Refusals

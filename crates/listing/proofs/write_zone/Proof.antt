@@ -4,9 +4,8 @@ use mathlib.Core.Path.{ap, _∙_}
 use mathlib.Core.List.{List}
 use native.Mathlib.Omega.{arith}
 use lib.Seq.{sets}
-use Rattle.model.specs.Chain.{Pair}
+use Rattle.model.specs.Chain.{Pair, numbersOf}
 use Rattle.zone.specs.Lines.{entriesIn}
-use Rattle.listing.specs.Held.{numbersOf}
 use Rattle.listing.proofs.Lines.{lines-held, lines-count}
 use Rattle.listing.proofs.HeldZones.{few-entries}
 use borrow.Author.Needs.{needs}

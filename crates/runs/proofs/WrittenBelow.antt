@@ -11,7 +11,7 @@ use borrow.Rule.Slice.PartMut.{same-len-mid}
 use Rattle.bits.proofs.Tests.{by-test}
 use Rattle.model.specs.Blocks.{blockAt}
 use Rattle.model.proofs.ByPlace.{block-length}
-use Rattle.place.proofs.BlockPut.{putBlock, put-here, put-before, put-after}
+use Rattle.runs.proofs.BlockPut.{putBlock, put-here, put-before, put-after}
 
 pub record WrittenBelow (size n : ℕ) (block : ℕ → List ℕ) (old m : List ℕ) (z : ℕ) : Type 0 where
   pub inside : z ≤ n

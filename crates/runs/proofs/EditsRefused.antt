@@ -1,0 +1,87 @@
+-- Refusals 13 and 14: the verdict on a map's pieces, carried to its outcome.
+use mathlib.Core.Path.{_≡_, refl, sym, ap, _∙_}
+use mathlib.Core.Bool.{Bool, true, false}
+use mathlib.Core.List.{List, []}
+use Prim.Native.Nat.{ℕ}
+use native.Mathlib.Omega.{arith}
+use Rattle.bits.proofs.Tests.{by-test}
+use Rattle.geometry.specs.declared.Geometry.{Geometry}
+use Rattle.geometry.specs.Record.{geometryOf}
+use Rattle.geometry.specs.Accepted.{AcceptedGeometry}
+use Rattle.model.specs.Pieces.{Piece, piecesOf}
+use Rattle.calls.specs.Edits.{Disc, Edit, give, gives}
+use Rattle.calls.specs.Holes.{allApart}
+use Rattle.calls.specs.Judge.{Call, place, Verdict, unless, isEmpty, editable, listFits, pairsFrom, judge}
+use Rattle.calls.specs.Judge as judged
+use Rattle.calls.specs.Room.{RoomFor}
+use Rattle.calls.proofs.Invariant.{FitPieces}
+use Rattle.calls.proofs.RunsKept.{unless-inv}
+use Rattle.calls.proofs.Thirteen.{thirteen}
+use Rattle.calls.proofs.Fourteen as onPieces
+use Rattle.runs.specs.Steps.{Outcome, refused, done, byVerdict, discOf, outcome}
+use Rattle.runs.specs.Editable.{zonesOf, Editable}
+use Rattle.runs.specs.Demand3.{Accepted}
+use Rattle.runs.specs.Refusals.{piecesOn}
+use Rattle.runs.proofs.StepWritten.{outcome-judged}
+use Rattle.runs.proofs.MapAccepted.{map-geometry, map-disc}
+use Rattle.runs.proofs.EditsOf.{judged-done}
+
+-- a refused outcome was judged so
+judged-refused : (g : Geometry) (s : Disc) (v : Verdict) (n z : ℕ) → byVerdict g s v ≡ refused n z → v ≡ judged.refused n
+judged-refused g s (judged.refused k) n z h = cc
+judged-refused g s (judged.accepted e) n z h = let z : _≡_ {A = ℕ} 0 1 = cc in absurd (omega arith)
+
+-- a refusal that is not this test's own was found after it
+passed : (b : Bool) (n k : ℕ) (v : Verdict) → (n ≡ k → ⊥) → unless b n v ≡ judged.refused k → (b ≡ true) × (v ≡ judged.refused k)
+passed true n k v d h = (cc, h)
+passed false n k v d h = let e : n ≡ k = cc in absurd (d e)
+
+-- a test's own refusal
+failed : (b : Bool) (n : ℕ) (e : Edit) → unless b n (judged.accepted e) ≡ judged.refused n → b ≡ true → ⊥
+failed b n e h t = let z : _≡_ {A = ℕ} 0 1 = cc in omega arith
+
+module _ (m : List ℕ) (ed : Editable m) where
+  abbrev g : Geometry
+  g = geometryOf m
+
+  abbrev l : List Piece
+  l = piecesOn m
+
+  ok : AcceptedGeometry (geometryOf m)
+  ok = map-geometry m (zonesOf m) (ed .bytes) (ed .accepted)
+
+  fit : FitPieces (geometryOf m) (piecesOn m)
+  fit = map-disc m (zonesOf m) (ed .bytes) (ed .accepted) (ed .apart) .pieces .fit
+
+  fate : (c : Call) → outcome m c ≡ byVerdict (geometryOf m) (discOf m (zonesOf m)) (judge (geometryOf m) (piecesOn m) c)
+  fate c = outcome-judged m (zonesOf m) (ed .accepted) (ed .apart) c
+
+  told : (c : Call) (n z : ℕ) → outcome m c ≡ refused n z → judge (geometryOf m) (piecesOn m) c ≡ judged.refused n
+  told c n z h = judged-refused (geometryOf m) (discOf m (zonesOf m)) (judge (geometryOf m) (piecesOn m) c) n z (sym (fate c) ∙ h)
+
+  pub never-fourteen : (c : Call) (z : ℕ) → outcome m c ≡ refused 14 z → ⊥
+  never-fourteen c z h = onPieces.never-fourteen g l c ok fit (told c 14 z h)
+
+  pub placed-had-room : (id : ℕ) (list : List ℕ) (e : Edit) → Accepted m (place id list) e → RoomFor (geometryOf m) id list (piecesOn m)
+  placed-had-room id list e a =
+      let h = judged-done m (zonesOf m) (ed .accepted) (ed .apart) (place id list) e (a .disc) (a .is) in
+      let h1 = unless-inv (editable g id) _ _ e h in
+      let h2 = unless-inv (isEmpty (piecesOf id l)) _ _ e (h1 .1) in
+      let h3 = unless-inv (listFits g id list) _ _ e (h2 .1) in
+      let h4 = unless-inv (allApart g 0 (g .zones) (give id (pairsFrom list) l)) _ _ e (h3 .1) in
+      thirteen g id list l ok fit (h3 .0) .0 (h4 .0)
+
+  pub thirteen-had-none : (id : ℕ) (list : List ℕ) → outcome m (place id list) ≡ refused 13 0 → RoomFor (geometryOf m) id list (piecesOn m) → ⊥
+  thirteen-had-none id list h r =
+      let h1 = passed (editable g id) 8 13 _ (λ e. omega arith) (told (place id list) 13 0 h) in
+      let h2 = passed (isEmpty (piecesOf id l)) 11 13 _ (λ e. omega arith) (h1 .1) in
+      let h3 = passed (listFits g id list) 12 13 _ (λ e. omega arith) (h2 .1) in
+      failed (allApart g 0 (g .zones) (give id (pairsFrom list) l)) 13 (gives id (pairsFrom list)) (h3 .1) (thirteen g id list l ok fit (h3 .0) .1 r)
+
+  pub without-room : (id : ℕ) (list : List ℕ) → editable (geometryOf m) id ≡ true → piecesOf id (piecesOn m) ≡ [] → listFits (geometryOf m) id list ≡ true
+      → (RoomFor (geometryOf m) id list (piecesOn m) → ⊥) → outcome m (place id list) ≡ refused 13 0
+  without-room id list a b c full =
+      let e : isEmpty (piecesOf id l) ≡ true = ap isEmpty b in
+      by-test (allApart g 0 (g .zones) (give id (pairsFrom list) l))
+      (λ t. absurd (full (thirteen g id list l ok fit c .0 t)))
+      (λ t. fate (place id list) ∙ simp (a, e, c, t) refl)
