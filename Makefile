@@ -3,11 +3,13 @@
 # make library    the static library for C and Rust
 # make compare    many generated maps through the library and through the second program (SEEDS=n for more), and that the
 #                 stored cases are current
+# make bench      the library's time against the second program's, as ratios
+# make rust       the tests of the Rust binding
 # make cases      the stored cases of crate vectors, written again by the second program
 MAP ?= maps/a.map
 SEEDS ?= 40000
 
-.PHONY: all test library compare cases
+.PHONY: all test library compare bench rust cases
 
 all:
 	rt check map_lines
@@ -27,6 +29,13 @@ compare: library
 	second/target/release/cases second/target/cases
 	cmp second/target/cases/stdin crates/vectors/stdin
 	cmp second/target/cases/stdout crates/vectors/stdout
+
+bench: library
+	cd second && cargo build --release --offline -p bench
+	second/target/release/bench
+
+rust: library
+	cd rust && cargo test --release --offline
 
 cases:
 	cd second && cargo build --release --offline -p reference

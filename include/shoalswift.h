@@ -46,7 +46,8 @@ uint32_t shoalswift_free(const uint8_t *map, size_t map_len, uint32_t *list, siz
 uint32_t shoalswift_address(const uint8_t *map, size_t map_len, uint32_t n, uint64_t position, uint64_t *address, uint32_t *zone);
 
 /* Writes the fill at each address of an object, or of free space, within a stretch of image that starts at disc address first;
- * *count is the number of these addresses. Further: 8 and 10 (object), 16. */
+ * *count is the number of these addresses. What lies outside the stretch is neither written nor counted. Further: 8 and 10 (object),
+ * 16. */
 uint32_t shoalswift_sweep_object(const uint8_t *map, size_t map_len, uint8_t *image, size_t image_len, uint64_t first, uint8_t fill,
                                  uint32_t id, uint64_t *count, uint32_t *zone);
 uint32_t shoalswift_sweep_free(const uint8_t *map, size_t map_len, uint8_t *image, size_t image_len, uint64_t first, uint8_t fill,

@@ -1,0 +1,24 @@
+//! Links the static library. Its folder comes from SHOALSWIFT_LIB, or is the
+//! product's own target folder.
+
+use std::env;
+use std::path::Path;
+
+fn main() {
+    println!("cargo:rerun-if-env-changed=SHOALSWIFT_LIB");
+    let manifest = env::var("CARGO_MANIFEST_DIR").expect("cargo names the manifest's folder");
+    let folder = env::var("SHOALSWIFT_LIB").unwrap_or("../target/staticlib".to_string());
+    // A relative folder is taken from the manifest.
+    let folder = Path::new(&manifest).join(folder);
+    println!(
+        "cargo:rerun-if-changed={}",
+        folder.join("libshoalswift.a").display()
+    );
+    // As a static library it becomes part of this package's own, so whoever
+    // depends on the package has nothing more to link.
+    println!("cargo:rustc-link-search=native={}", folder.display());
+    println!("cargo:rustc-link-lib=static=shoalswift");
+    // The library may bring a panic handler of its own; the standard
+    // library's is then the one used.
+    println!("cargo:rustc-link-arg=-Wl,--allow-multiple-definition");
+}

@@ -1,0 +1,39 @@
+//! Safe calls to Shoalswift, a proved library for the maps of discs in Acorn's
+//! E format.
+//!
+//! A map is one slice: the blocks of all zones, zone 0 first. Lists are pairs
+//! of entries: disc bit, then length in map bits. Any bytes and any numbers may
+//! be handed in. A refused call changes no byte of map, image or list.
+//!
+//! ```
+//! let mut map = std::fs::read("../maps/a.map").unwrap();
+//! let claimed = shoalswift::claim(&mut map, 1).unwrap();
+//! let mut list = [0; 2];
+//! assert_eq!(shoalswift::list(&map, claimed.id, &mut list), Ok(1));
+//! assert_eq!(list, [claimed.start, claimed.length]);
+//! assert_eq!(
+//!     shoalswift::release(&mut map, 2, &mut list).unwrap_err().reason,
+//!     shoalswift::Reason::NumberRange
+//! );
+//! ```
+
+#![deny(unsafe_code)]
+#![warn(missing_docs)]
+
+#[allow(unsafe_code)]
+mod calls;
+mod refusal;
+
+pub use calls::{address, check, claim, free, list, place, release, sweep_free, sweep_object};
+pub use refusal::{Reason, Refusal};
+
+/// What a claim gave: a new object of one piece.
+#[derive(Clone, Copy, Debug, PartialEq, Eq)]
+pub struct Claimed {
+    /// The id, which was unused before.
+    pub id: u32,
+    /// The disc bit where the piece starts.
+    pub start: u32,
+    /// The piece's length in map bits.
+    pub length: u32,
+}

@@ -1,0 +1,491 @@
+//! Whole discs as real ones are laid out, small and made here: an 800K floppy
+//! and two hard discs of five zones. Files are written into the image, one is
+//! swept and released, and every other must stay as it was.
+
+use shoalswift::{
+    address, check, claim, free, list, place, release, sweep_free, sweep_object, Reason,
+};
+
+/// The judged fields of a disc record.
+#[derive(Clone, Copy)]
+struct Shape {
+    log2secsize: u8,
+    idlen: u8,
+    log2bpmb: u8,
+    nzones: u8,
+    zone_spare: u16,
+    disc_size: u32,
+}
+
+const FLOPPY: Shape = Shape {
+    log2secsize: 10,
+    idlen: 15,
+    log2bpmb: 7,
+    nzones: 1,
+    zone_spare: 1312,
+    disc_size: 819_200,
+};
+
+/// Clusters of 4 map bits; the last 64 map bits lie past the disc's end.
+const HARD_DISC_512: Shape = Shape {
+    log2secsize: 9,
+    idlen: 12,
+    log2bpmb: 7,
+    nzones: 5,
+    zone_spare: 32,
+    disc_size: (5 * 4064 - 480 - 64) * 128,
+};
+
+/// One map bit for each sector; the disc ends where its map does.
+const HARD_DISC_256: Shape = Shape {
+    log2secsize: 8,
+    idlen: 11,
+    log2bpmb: 8,
+    nzones: 5,
+    zone_spare: 32,
+    disc_size: (5 * 2016 - 480) * 256,
+};
+
+impl Shape {
+    fn sector(&self) -> usize {
+        1 << self.log2secsize
+    }
+
+    fn bytes_per_map_bit(&self) -> usize {
+        1 << self.log2bpmb
+    }
+
+    fn zones(&self) -> usize {
+        self.nzones as usize
+    }
+
+    fn zone_bits(&self) -> usize {
+        8 * self.sector() - self.zone_spare as usize
+    }
+
+    /// The shortest fragment: idlen + 1 map bits in whole clusters.
+    fn shortest(&self) -> usize {
+        let cluster = (self.sector() / self.bytes_per_map_bit()).max(1);
+        (self.idlen as usize + 1).div_ceil(cluster) * cluster
+    }
+
+    fn ids_per_zone(&self) -> u32 {
+        self.zone_bits() as u32 / (self.idlen as u32 + 1)
+    }
+
+    /// The first allocation bit of a zone, in its block.
+    fn first_block_bit(&self, zone: usize) -> usize {
+        if zone == 0 {
+            512
+        } else {
+            32
+        }
+    }
+
+    /// The first disc bit of a zone.
+    fn first_disc_bit(&self, zone: usize) -> usize {
+        zone * self.zone_bits() + self.first_block_bit(zone) - 512
+    }
+
+    /// The block bit in the last zone where object 1 takes over.
+    fn disc_end(&self) -> usize {
+        let end = self.disc_size as usize / self.bytes_per_map_bit();
+        end + 512 - (self.zones() - 1) * self.zone_bits()
+    }
+
+    /// Object 2 holds two copies of the map and a directory of 2,048 bytes.
+    fn system_bits(&self) -> usize {
+        (2 * self.zones() * self.sector() + 2048).div_ceil(self.sector()) * self.sector()
+            / self.bytes_per_map_bit()
+    }
+
+    /// Object 2 starts in the middle zone. A hard disc has its boot block in
+    /// zone 0, in object 2 too.
+    fn system_bits_of_zone(&self, zone: usize) -> usize {
+        if zone == self.zones() / 2 {
+            self.system_bits()
+        } else if zone == 0 {
+            4096 / self.bytes_per_map_bit()
+        } else {
+            0
+        }
+    }
+}
+
+/// Writes a fragment: its id, lowest bit first, and the closing bit.
+fn draw(block: &mut [u8], start: usize, end: usize, idlen: u8, id: usize) {
+    for bit in 0..idlen as usize {
+        if id >> bit & 1 == 1 {
+            block[(start + bit) / 8] |= 1 << ((start + bit) % 8);
+        }
+    }
+    block[(end - 1) / 8] |= 1 << ((end - 1) % 8);
+}
+
+fn zone_check(block: &[u8]) -> u8 {
+    let (mut sum, mut carry) = (0u64, 0);
+    for index in (0..block.len() / 4).rev() {
+        let mut word: [u8; 4] = block[4 * index..4 * index + 4].try_into().unwrap();
+        if index == 0 {
+            word[0] = 0;
+        }
+        sum += u32::from_le_bytes(word) as u64 + carry;
+        carry = sum >> 32;
+        sum &= 0xFFFF_FFFF;
+    }
+    (sum as u32).to_le_bytes().iter().fold(0, |all, b| all ^ b)
+}
+
+fn write_record(map: &mut [u8], shape: &Shape) {
+    map[4] = shape.log2secsize;
+    map[8] = shape.idlen;
+    map[9] = shape.log2bpmb;
+    map[13] = shape.nzones;
+    map[14..16].copy_from_slice(&shape.zone_spare.to_le_bytes());
+    map[20..24].copy_from_slice(&shape.disc_size.to_le_bytes());
+    map[26..36].copy_from_slice(b"BenchDisc0");
+}
+
+/// A zone of a fresh disc: object 2 where it belongs, then free room, then
+/// object 1 past the disc's end.
+fn draw_zone(block: &mut [u8], shape: &Shape, zone: usize) {
+    let end = 32 + shape.zone_bits();
+    let mut start = shape.first_block_bit(zone);
+    let system = shape.system_bits_of_zone(zone);
+    if system > 0 {
+        draw(block, start, start + system, shape.idlen, 2);
+        start += system;
+    }
+    let mut free_end = end;
+    if zone == shape.zones() - 1 && shape.disc_end() < end {
+        free_end = shape.disc_end();
+        draw(block, free_end, end, shape.idlen, 1);
+    }
+    draw(block, start, free_end, shape.idlen, 0);
+    let link = 0x8000 | (start - 8) as u16;
+    block[1..3].copy_from_slice(&link.to_le_bytes());
+}
+
+/// The map of a fresh disc.
+fn fresh_map(shape: &Shape) -> Vec<u8> {
+    let mut map = vec![0; shape.zones() * shape.sector()];
+    write_record(&mut map, shape);
+    let mut cross = 255;
+    for zone in (0..shape.zones()).rev() {
+        let block = &mut map[zone * shape.sector()..][..shape.sector()];
+        draw_zone(block, shape, zone);
+        block[3] = if zone == 0 { cross } else { 17 * zone as u8 };
+        cross ^= block[3];
+        block[0] = zone_check(block);
+    }
+    map
+}
+
+/// A file: its id and all bytes of its pieces, joined in object order.
+struct File {
+    id: u32,
+    contents: Vec<u8>,
+}
+
+struct Disc {
+    shape: Shape,
+    map: Vec<u8>,
+    image: Vec<u8>,
+    files: Vec<File>,
+}
+
+/// An object's pieces, as pairs.
+fn pieces(map: &[u8], id: u32) -> Vec<(usize, usize)> {
+    let mut entries = [0; 64];
+    let pairs = list(map, id, &mut entries).expect("the object is listed");
+    pairs_of(&entries[..2 * pairs])
+}
+
+fn pairs_of(entries: &[u32]) -> Vec<(usize, usize)> {
+    let pair = |two: &[u32]| (two[0] as usize, two[1] as usize);
+    entries.chunks(2).map(pair).collect()
+}
+
+/// Bytes that differ from file to file and from place to place, never 0xE5.
+fn contents(id: u32, length: usize) -> Vec<u8> {
+    let mut state = id.wrapping_mul(2_654_435_761) | 1;
+    let mut next = || {
+        state = state.wrapping_mul(1_664_525).wrapping_add(1_013_904_223);
+        (state >> 24) as u8 & 0x7F
+    };
+    (0..length).map(|_| next()).collect()
+}
+
+/// The pieces of one of three scattered files: in each zone, in the id's
+/// object order, three pieces that take turns with those of the others.
+fn scattered(shape: &Shape, id: u32, turn: usize) -> Vec<u32> {
+    let m = shape.shortest();
+    let start_zone = (id / shape.ids_per_zone()) as usize;
+    let mut entries = Vec::new();
+    for step in 0..shape.zones() {
+        let zone = (start_zone + step) % shape.zones();
+        for round in 0..3 {
+            let lane = 3 * round + turn;
+            let bit = shape.first_disc_bit(zone) + 16 * m + lane * 8 * m;
+            entries.extend([bit as u32, ((1 + lane % 4) * m) as u32]);
+        }
+    }
+    entries
+}
+
+impl Disc {
+    fn new(shape: Shape) -> Disc {
+        let map = fresh_map(&shape);
+        assert_eq!(check(&map), Ok(()));
+        let mut disc = Disc {
+            shape,
+            map,
+            image: vec![0x55; shape.disc_size as usize],
+            files: Vec::new(),
+        };
+        disc.add_files();
+        disc.add_map_copies();
+        disc
+    }
+
+    /// Three scattered files, then claimed ones. The ids start in a zone near
+    /// the end, in zone 0 and in the last zone.
+    fn add_files(&mut self) {
+        let per_zone = self.shape.ids_per_zone();
+        let zones = self.shape.nzones as u32;
+        let ids = [
+            zones.saturating_sub(2) * per_zone + 5,
+            7,
+            zones * per_zone - 1,
+        ];
+        for (turn, id) in ids.into_iter().enumerate() {
+            let entries = scattered(&self.shape, id, turn);
+            assert_eq!(place(&mut self.map, id, &entries), Ok(()));
+            assert_eq!(pieces(&self.map, id), pairs_of(&entries));
+            self.fill_file(id);
+        }
+        for size in [1, 5_000, 100_000] {
+            let claimed = claim(&mut self.map, size).expect("there is room");
+            self.fill_file(claimed.id);
+            let last = self.files.last().unwrap();
+            assert!(last.contents.len() as u64 >= size);
+        }
+    }
+
+    fn fill_file(&mut self, id: u32) {
+        let bytes = self.addresses(id);
+        let contents = contents(id, bytes.len());
+        for (at, byte) in bytes.iter().zip(&contents) {
+            assert_eq!(self.image[*at], 0x55, "files do not share a byte");
+            self.image[*at] = *byte;
+        }
+        self.files.push(File { id, contents });
+    }
+
+    /// The disc addresses of an object, worked out from its pieces alone.
+    fn addresses(&self, id: u32) -> Vec<usize> {
+        let unit = self.shape.bytes_per_map_bit();
+        let spread = |(bit, length): (usize, usize)| bit * unit..(bit + length) * unit;
+        pieces(&self.map, id).into_iter().flat_map(spread).collect()
+    }
+
+    /// The map is on the disc itself, twice, where the middle zone starts.
+    fn add_map_copies(&mut self) {
+        let bit = self.shape.first_disc_bit(self.shape.zones() / 2);
+        let at = bit * self.shape.bytes_per_map_bit();
+        let length = self.map.len();
+        self.image[at..at + length].copy_from_slice(&self.map);
+        self.image[at + length..at + 2 * length].copy_from_slice(&self.map);
+        assert_eq!(address(&self.map, 0x200, 0), Ok(at as u64));
+    }
+}
+
+/// Reads a whole file through `address`, a map bit's bytes at a time.
+fn read_back(map: &[u8], image: &[u8], unit: usize, file: &File) -> Vec<u8> {
+    let mut bytes = Vec::new();
+    while bytes.len() < file.contents.len() {
+        let at = address(map, file.id << 8, bytes.len() as u64).expect("within the file");
+        bytes.extend_from_slice(&image[at as usize..at as usize + unit]);
+    }
+    bytes
+}
+
+/// Single bytes, at the ends of pieces too, by internal numbers that start the
+/// file at its first, third or eighth sector.
+fn read_bytes(disc: &Disc, map: &[u8], image: &[u8], file: &File) {
+    let length = file.contents.len();
+    let unit = disc.shape.bytes_per_map_bit();
+    let mut positions = vec![0, 1, length / 2];
+    let mut end = 0;
+    for (_, bits) in pieces(map, file.id) {
+        positions.push(end);
+        end += bits * unit;
+        positions.push(end - 1);
+    }
+    assert_eq!(end, length);
+    for (low, skipped) in [(0, 0), (1, 0), (3, 2), (8, 7)] {
+        let skipped = skipped * disc.shape.sector();
+        let n = file.id << 8 | low;
+        for position in positions.iter().filter(|at| **at >= skipped) {
+            let at = address(map, n, (position - skipped) as u64).expect("within the file");
+            assert_eq!(image[at as usize], file.contents[*position]);
+        }
+        let past = address(map, n, length.saturating_sub(skipped) as u64);
+        assert_eq!(past.unwrap_err().reason, Reason::PastEnd);
+    }
+}
+
+/// Every file but one lists and reads as on the disc as it was made.
+fn others_are_as_before(disc: &Disc, map: &[u8], image: &[u8], without: Option<u32>) {
+    assert_eq!(check(map), Ok(()));
+    assert_eq!(pieces(map, 2), pieces(&disc.map, 2));
+    let unit = disc.shape.bytes_per_map_bit();
+    for file in disc.files.iter().filter(|file| Some(file.id) != without) {
+        assert_eq!(pieces(map, file.id), pieces(&disc.map, file.id));
+        assert_eq!(read_back(map, image, unit, file), file.contents);
+        read_bytes(disc, map, image, file);
+    }
+}
+
+/// Sweeps one file in windows of uneven length. Exactly its bytes change.
+fn swept_in_windows(disc: &Disc, file: &File) -> Vec<u8> {
+    let mut image = disc.image.clone();
+    let length = image.len();
+    let cuts = [0, 1, length / 7 + 3, length / 2 - 100, length - 5, length];
+    let mut count = 0;
+    for window in cuts.windows(2) {
+        let stretch = &mut image[window[0]..window[1]];
+        count += sweep_object(&disc.map, stretch, window[0] as u64, 0xE5, file.id).unwrap();
+    }
+    assert_eq!(count, file.contents.len() as u64);
+    let mut expected = disc.image.clone();
+    for at in disc.addresses(file.id) {
+        expected[at] = 0xE5;
+    }
+    assert!(image == expected, "only the file's addresses changed");
+    image
+}
+
+/// Sweeps and releases one file, then places it again.
+fn wipe_and_undo(disc: &Disc, file: &File) {
+    let image = swept_in_windows(disc, file);
+    let mut map = disc.map.clone();
+    let mut entries = [0; 64];
+    let pairs = release(&mut map, file.id, &mut entries).expect("the file is there");
+    let returned = &entries[..2 * pairs];
+    assert_eq!(pairs_of(returned), pieces(&disc.map, file.id));
+    let gone = list(&map, file.id, &mut [0; 64]).unwrap_err();
+    assert_eq!(gone.reason, Reason::Absent);
+    others_are_as_before(disc, &map, &image, Some(file.id));
+    assert_eq!(place(&mut map, file.id, returned), Ok(()));
+    assert!(map == disc.map, "every byte is back");
+}
+
+/// Sweeping what is free leaves every file and object 2.
+fn sweep_what_is_free(disc: &Disc) {
+    let mut image = disc.image.clone();
+    let mut entries = [0; 200];
+    let pairs = free(&disc.map, &mut entries).unwrap();
+    let mut expected = disc.image.clone();
+    for (bit, length) in pairs_of(&entries[..2 * pairs]) {
+        let unit = disc.shape.bytes_per_map_bit();
+        expected[bit * unit..(bit + length) * unit].fill(0xE5);
+    }
+    let count = sweep_free(&disc.map, &mut image, 0, 0xE5).unwrap();
+    assert!(image == expected);
+    let swept = image.iter().filter(|byte| **byte == 0xE5).count();
+    assert_eq!(count, swept as u64);
+    others_are_as_before(disc, &disc.map, &image, None);
+}
+
+fn end_to_end(shape: Shape) {
+    let disc = Disc::new(shape);
+    others_are_as_before(&disc, &disc.map, &disc.image, None);
+    for file in &disc.files {
+        wipe_and_undo(&disc, file);
+    }
+    sweep_what_is_free(&disc);
+}
+
+#[test]
+fn floppy_of_800k() {
+    end_to_end(FLOPPY);
+    let numbers = (FLOPPY.zone_bits(), FLOPPY.shortest(), FLOPPY.ids_per_zone());
+    assert_eq!(numbers, (6880, 16, 430));
+}
+
+#[test]
+fn hard_disc_with_sectors_of_512_bytes() {
+    end_to_end(HARD_DISC_512);
+}
+
+#[test]
+fn hard_disc_with_sectors_of_256_bytes() {
+    end_to_end(HARD_DISC_256);
+}
+
+#[test]
+fn every_file_released_gives_the_fresh_map() {
+    for shape in [FLOPPY, HARD_DISC_512, HARD_DISC_256] {
+        let Disc { mut map, files, .. } = Disc::new(shape);
+        for file in files.iter().rev() {
+            release(&mut map, file.id, &mut [0; 64]).unwrap();
+        }
+        assert!(map == fresh_map(&shape));
+    }
+}
+
+#[test]
+fn a_damaged_zone_is_named() {
+    let mut disc = Disc::new(HARD_DISC_512);
+    disc.map[3 * 512 + 300] ^= 4;
+    let refusal = check(&disc.map).unwrap_err();
+    assert_eq!((refusal.reason, refusal.zone), (Reason::ZoneCheck, 3));
+    let before = disc.image.clone();
+    let answer = sweep_object(&disc.map, &mut disc.image, 0, 0xE5, 7);
+    assert_eq!(answer, Err(refusal));
+    assert!(disc.image == before);
+}
+
+/// A piece at the end of each named zone, in the order given.
+fn one_piece_in_each(shape: &Shape, zones: &[usize]) -> Vec<u32> {
+    let m = shape.shortest();
+    let last = |zone: &usize| [shape.first_disc_bit(zone + 1) - m, m].map(|n| n as u32);
+    zones.iter().flat_map(last).collect()
+}
+
+#[test]
+fn object_690_with_168_ids_per_zone_starts_in_zone_4() {
+    let shape = HARD_DISC_256;
+    assert_eq!(shape.ids_per_zone(), 168);
+    let mut map = fresh_map(&shape);
+    let wrong = place(&mut map, 690, &one_piece_in_each(&shape, &[0, 4]));
+    assert_eq!(wrong.unwrap_err().reason, Reason::BadRequest);
+    assert!(map == fresh_map(&shape));
+    let right = one_piece_in_each(&shape, &[4, 0, 1, 3]);
+    assert_eq!(place(&mut map, 690, &right), Ok(()));
+    assert_eq!(pieces(&map, 690), pairs_of(&right));
+}
+
+#[test]
+fn cross_checks_change_by_the_rule_and_no_other_zone_does() {
+    let rows: [(&[usize], &[u8]); 4] = [
+        (&[2], &[0]),
+        (&[1, 4], &[1, 1]),
+        (&[0, 2, 3], &[1, 2, 3]),
+        (&[0, 1, 2, 3, 4], &[1, 2, 3, 1, 1]),
+    ];
+    let shape = HARD_DISC_256;
+    let fresh = fresh_map(&shape);
+    for (zones, changes) in rows {
+        let mut map = fresh.clone();
+        place(&mut map, 5, &one_piece_in_each(&shape, zones)).unwrap();
+        let blocks = map.chunks(256).zip(fresh.chunks(256));
+        for (zone, (new, old)) in blocks.enumerate() {
+            match zones.iter().position(|touched| *touched == zone) {
+                Some(place) => assert_eq!(new[3] ^ old[3], changes[place]),
+                None => assert!(new == old),
+            }
+        }
+    }
+}

@@ -1,0 +1,171 @@
+//! Measures the product's calls against those of the reference, on maps of
+//! growing size, and prints the times as Markdown tables. The reference is
+//! the yardstick: it is written to be plain, with lists on the heap.
+//!
+//! `--quick` makes one round, to see that all of it runs.
+
+mod maps;
+mod sides;
+mod timing;
+
+use std::env;
+use std::fs;
+use std::process::{Command, ExitCode};
+use std::time::Duration;
+
+use maps::{Size, NAMES, ZONES};
+use timing::{agree, Lowest};
+
+/// How much is measured. There are several passes over all calls, so that a
+/// while in which the machine is busy does not spoil all rounds of one call.
+struct Plan {
+    passes: u32,
+    /// For the rounds of one call on the maps of one size, in each pass.
+    time: Duration,
+}
+
+const FULL: Plan = Plan {
+    passes: 5,
+    time: Duration::from_millis(250),
+};
+
+const QUICK: Plan = Plan {
+    passes: 1,
+    time: Duration::ZERO,
+};
+
+fn main() -> ExitCode {
+    let arguments: Vec<String> = env::args().skip(1).collect();
+    let plan = match arguments.as_slice() {
+        [] => FULL,
+        [only] if only == "--quick" => QUICK,
+        _ => {
+            eprintln!("the only argument known is --quick");
+            return ExitCode::from(2);
+        }
+    };
+
+    let sizes: Vec<Size> = ZONES.into_iter().map(Size::new).collect();
+    for size in &sizes {
+        for (name, cases) in NAMES.iter().zip(&size.cases) {
+            if !cases.iter().all(agree) {
+                println!("{} zones, {name}: the answers differ", size.zones);
+                return ExitCode::FAILURE;
+            }
+        }
+    }
+
+    let times = measure(&sizes, &plan);
+    print_how(&times, &plan);
+    print_ratios(&sizes, &times);
+    print_growth(&sizes, &times);
+    ExitCode::SUCCESS
+}
+
+/// The lowest times by size and call.
+fn measure(sizes: &[Size], plan: &Plan) -> Vec<Vec<Lowest>> {
+    let row = |size: &Size| NAMES.map(|_| Lowest::new(size.maps())).into();
+    let mut times: Vec<Vec<Lowest>> = sizes.iter().map(row).collect();
+    for _ in 0..plan.passes {
+        for (size, row) in sizes.iter().zip(&mut times) {
+            for (cases, lowest) in size.cases.iter().zip(row) {
+                lowest.add(cases, plan.time);
+            }
+        }
+    }
+    times
+}
+
+/// Says how the figures were taken and on what.
+fn print_how(times: &[Vec<Lowest>], plan: &Plan) {
+    let rounds = || times.iter().flatten().map(|lowest| lowest.rounds);
+    println!(
+        "Lowest time of {} to {} rounds (passes over all calls: {}). A round makes the call on each map of a \
+         size, by the product and then by the reference, each on a fresh copy of the same input; only the \
+         call is timed. A figure is the mean over the maps of each one's lowest time. Small maps are several, \
+         with 96 to 127 zones together. Both sides gave the same answers and bytes before.",
+        rounds().min().unwrap_or(0),
+        rounds().max().unwrap_or(0),
+        plan.passes
+    );
+    println!();
+    println!(
+        "Blocks of 1,024 bytes, idlen 15, 1,024 bytes a map bit, 4,128 bits a zone. The object listed, \
+         released and placed has two pieces in every zone. sweep_free has a window of 1 MiB. The claim's \
+         only hole is the last of the disc; ids begin anew in each zone, and in `packed` they go up from \
+         3 without a gap."
+    );
+    println!();
+    println!(
+        "Processor: {}. Compiler: {}. Load at the end: {}. The reference has overflow checks.",
+        processor(),
+        compiler(),
+        load()
+    );
+    println!();
+}
+
+fn processor() -> String {
+    let text = fs::read_to_string("/proc/cpuinfo").unwrap_or_default();
+    text.lines()
+        .find(|line| line.starts_with("model name"))
+        .and_then(|line| line.split_once(": "))
+        .map_or("unknown".to_string(), |(_, name)| name.to_string())
+}
+
+fn compiler() -> String {
+    match Command::new("rustc").arg("--version").output() {
+        Ok(output) => String::from_utf8_lossy(&output.stdout).trim().to_string(),
+        Err(_) => "unknown".to_string(),
+    }
+}
+
+/// The load tells how far the figures can be trusted.
+fn load() -> String {
+    let text = fs::read_to_string("/proc/loadavg").unwrap_or_default();
+    text.split(' ').next().unwrap_or("unknown").to_string()
+}
+
+/// The head of a table whose last columns are the calls.
+fn print_head(first: &[&str]) {
+    let names = [first, &NAMES].concat();
+    println!("| {} |", names.join(" | "));
+    println!("|{}", "---:|".repeat(names.len()));
+}
+
+fn print_ratios(sizes: &[Size], times: &[Vec<Lowest>]) {
+    println!("Microseconds: product / reference = ratio.");
+    println!();
+    print_head(&["zones", "map bytes"]);
+    for (size, row) in sizes.iter().zip(times) {
+        print!("| {} | {} |", size.zones, size.map_bytes);
+        for lowest in row {
+            let product = lowest.product_microseconds();
+            let reference = lowest.reference_microseconds();
+            let ratio = product / reference;
+            print!(" {product:.1} / {reference:.1} = {ratio:.2} |");
+        }
+        println!();
+    }
+    println!();
+}
+
+fn print_growth(sizes: &[Size], times: &[Vec<Lowest>]) {
+    println!(
+        "The product's microseconds a zone: even down a column where time grows with the map."
+    );
+    println!();
+    print_head(&["zones", "fragments a zone", "used %"]);
+    for (size, row) in sizes.iter().zip(times) {
+        let fragments = size.fragments / size.maps() / size.zones;
+        let used = size.used_percent();
+        print!("| {} | {fragments} | {used} |", size.zones);
+        for lowest in row {
+            print!(
+                " {:.2} |",
+                lowest.product_microseconds() / size.zones as f64
+            );
+        }
+        println!();
+    }
+}

@@ -1,0 +1,229 @@
+//! The maps that are measured and the calls made on them.
+
+use reference::case::{Call, Case};
+use reference::generate::{build, Rng};
+use reference::geometry::{DiscRecord, Geometry};
+use reference::map::{check, Owner};
+
+/// The numbers of zones measured.
+pub const ZONES: [u8; 5] = [1, 2, 8, 32, 127];
+
+/// 127 zones of 1,024-byte blocks leave 258 ids a zone, hence 4,128 of the
+/// 8,192 bits. All sizes spare the same, so that their zones can be compared.
+const ZONE_SPARE: u16 = 4_064;
+
+/// Owned fragments and holes are this long, in map bits. A group of one to
+/// three fragments is followed by one hole, so that half of the space is used.
+const OWNED: (usize, usize) = (16, 64);
+const HOLE: (usize, usize) = (16, 144);
+
+/// The last zone ends with a hole longer than all others.
+const LONG_HOLE: usize = 320;
+
+/// Longer than every hole but that one, so that a claim must look everywhere.
+const CLAIMED_BITS: u64 = 200;
+
+/// The length of object 2's fragment.
+const OBJECT_2: usize = 32;
+
+/// These owned fragments of each zone belong to one object, which is the one
+/// listed, released and placed: it touches every zone.
+const SPREAD: [usize; 2] = [8, 20];
+
+/// The bytes of disc image that are swept, from the middle of the disc.
+pub const WINDOW: usize = 1 << 20;
+
+/// How the objects are numbered.
+#[derive(Clone, Copy)]
+enum Numbers {
+    /// From the first number of the zone where they lie.
+    ByZone,
+    /// From 3 upward without a gap, as a disc filled by claims has them.
+    Packed,
+}
+
+/// The calls measured, in the order of their columns.
+pub const NAMES: [&str; 8] = [
+    "check",
+    "list",
+    "free",
+    "sweep_free",
+    "release",
+    "place",
+    "claim",
+    "claim, packed",
+];
+
+/// The maps of one size, and the calls to be measured on them.
+pub struct Size {
+    pub zones: usize,
+    pub map_bytes: usize,
+    /// The fragments of all maps together.
+    pub fragments: usize,
+    /// The free map bits of all maps together.
+    free_bits: usize,
+    disc_bits: usize,
+    /// For each name a call on every map.
+    pub cases: [Vec<Case>; NAMES.len()],
+}
+
+impl Size {
+    /// Small maps are several, with as many zones together as the largest
+    /// has: a processor learns the branches of one small map by heart, and
+    /// the rounds would then show a speed that no single call has.
+    pub fn new(nzones: u8) -> Size {
+        let record = DiscRecord {
+            log2secsize: 10,
+            idlen: 15,
+            log2bpmb: 10,
+            nzones,
+            zone_spare: ZONE_SPARE,
+            // Every bit of the map stands for a part of the disc.
+            disc_size: (nzones as u32 * (8_192 - ZONE_SPARE as u32) - 480) << 10,
+        };
+        let geometry = Geometry::accept(&record).expect("a record inside its ranges");
+        let mut size = Size {
+            zones: geometry.nzones,
+            map_bytes: geometry.nzones * geometry.sector_size,
+            fragments: 0,
+            free_bits: 0,
+            disc_bits: geometry.disc_bits(),
+            cases: Default::default(),
+        };
+        for seed in 0..ZONES[ZONES.len() - 1] / nzones {
+            size.add_map(&record, &geometry, seed as u64);
+        }
+        size
+    }
+
+    fn add_map(&mut self, record: &DiscRecord, geometry: &Geometry, seed: u64) {
+        let map = make_map(record, geometry, seed, Numbers::ByZone);
+        let packed = make_map(record, geometry, seed, Numbers::Packed);
+        let checked = check(&map).expect("a valid map");
+        self.fragments += checked.fragments().len();
+        self.free_bits += checked.free().iter().map(|hole| hole.length).sum::<usize>();
+        for (column, case) in self.cases.iter_mut().zip(calls(geometry, &map, &packed)) {
+            column.push(case);
+        }
+    }
+
+    /// How many maps there are.
+    pub fn maps(&self) -> usize {
+        self.cases[0].len()
+    }
+
+    pub fn used_percent(&self) -> usize {
+        100 - 100 * self.free_bits / (self.maps() * self.disc_bits)
+    }
+}
+
+/// The same fragments whatever the numbers, if the seed is the same.
+fn make_map(record: &DiscRecord, geometry: &Geometry, seed: u64, numbers: Numbers) -> Vec<u8> {
+    let mut rng = Rng::new(seed);
+    let mut next_id = 3;
+    let mut zones = Vec::new();
+    for zone in 0..geometry.nzones {
+        if let Numbers::ByZone = numbers {
+            next_id = 3.max((zone * geometry.ids_per_zone) as u32);
+        }
+        zones.push(make_zone(&mut rng, geometry, zone, &mut next_id));
+    }
+    build(record, &zones)
+}
+
+/// The fragments of a zone: owner and length.
+fn make_zone(
+    rng: &mut Rng,
+    geometry: &Geometry,
+    zone: usize,
+    next_id: &mut u32,
+) -> Vec<(Owner, usize)> {
+    let mut parts = Vec::new();
+    let mut room = geometry.end_block_bit() - geometry.first_block_bit(zone);
+    if zone == geometry.middle_zone() {
+        parts.push((Owner::Object(2), OBJECT_2));
+        room -= OBJECT_2;
+    }
+    let last = zone + 1 == geometry.nzones;
+    if last {
+        room -= LONG_HOLE;
+    }
+
+    let mut owned = 0;
+    // A whole group must fit, with a fragment after it for what is left.
+    while room >= 3 * OWNED.1 + HOLE.1 + OWNED.0 {
+        for _ in 0..rng.between(1, 3) {
+            parts.push((
+                owner(geometry, owned, next_id),
+                rng.between(OWNED.0, OWNED.1),
+            ));
+            room -= parts[parts.len() - 1].1;
+            owned += 1;
+        }
+        let hole = rng.between(HOLE.0, HOLE.1);
+        parts.push((Owner::Free, hole));
+        room -= hole;
+    }
+    parts.push((owner(geometry, owned, next_id), room));
+    if last {
+        parts.push((Owner::Free, LONG_HOLE));
+    }
+    parts
+}
+
+/// The owner of a zone's owned fragment with this index.
+fn owner(geometry: &Geometry, index: usize, next_id: &mut u32) -> Owner {
+    if SPREAD.contains(&index) {
+        return Owner::Object(spread_id(geometry));
+    }
+    *next_id += 1;
+    Owner::Object(*next_id - 1)
+}
+
+/// The spread object has the middle zone's last number, so that its pieces
+/// go round past the last zone. No other object comes up to it.
+fn spread_id(geometry: &Geometry) -> u32 {
+    ((geometry.middle_zone() + 1) * geometry.ids_per_zone - 1) as u32
+}
+
+/// The calls on a map, in the order of their names.
+fn calls(geometry: &Geometry, map: &[u8], packed: &[u8]) -> [Case; NAMES.len()] {
+    let case = |call, map: &[u8]| {
+        let mut case = Case::new(call, map);
+        case.number = spread_id(geometry);
+        // Room for every fragment there can be.
+        case.list = vec![0; 2 * geometry.ids()];
+        case
+    };
+
+    let mut sweep = case(Call::SweepFree, map);
+    sweep.fill = 0xFF;
+    sweep.wide = (geometry.disc_size - WINDOW as u64) / 2;
+
+    let release = case(Call::Release, map);
+    let released = release.run();
+    let pieces = SPREAD.len() * geometry.nzones;
+    assert_eq!(released.values[0], pieces as u64, "a zone lacks a piece");
+    let mut place = case(Call::Place, &released.map);
+    place.list = released.list[..2 * pieces].to_vec();
+
+    let mut claim = case(Call::Claim, map);
+    claim.wide = CLAIMED_BITS * geometry.bytes_per_map_bit;
+    let claimed = claim.run().values[1] as usize;
+    assert_eq!(claimed, geometry.disc_bits() - LONG_HOLE, "another hole");
+    let mut claim_packed = case(Call::Claim, packed);
+    claim_packed.wide = claim.wide;
+
+    let (check, list) = (case(Call::Check, map), case(Call::List, map));
+    let free = case(Call::Free, map);
+    [
+        check,
+        list,
+        free,
+        sweep,
+        release,
+        place,
+        claim,
+        claim_packed,
+    ]
+}

@@ -1,0 +1,170 @@
+//! One call, made by the product or by the reference.
+
+use reference::case::{Call, Case};
+use reference::{edit, map, read, Refusal};
+
+use crate::maps::WINDOW;
+
+extern "C" {
+    fn shoalswift_check(map: *const u8, map_len: usize, zone: *mut u32) -> u32;
+    fn shoalswift_list(
+        map: *const u8,
+        map_len: usize,
+        id: u32,
+        list: *mut u32,
+        list_len: usize,
+        pairs: *mut u64,
+        zone: *mut u32,
+    ) -> u32;
+    fn shoalswift_free(
+        map: *const u8,
+        map_len: usize,
+        list: *mut u32,
+        list_len: usize,
+        pairs: *mut u64,
+        zone: *mut u32,
+    ) -> u32;
+    fn shoalswift_sweep_free(
+        map: *const u8,
+        map_len: usize,
+        image: *mut u8,
+        image_len: usize,
+        first: u64,
+        fill: u8,
+        count: *mut u64,
+        zone: *mut u32,
+    ) -> u32;
+    fn shoalswift_release(
+        map: *mut u8,
+        map_len: usize,
+        id: u32,
+        list: *mut u32,
+        list_len: usize,
+        pairs: *mut u64,
+        zone: *mut u32,
+    ) -> u32;
+    fn shoalswift_place(
+        map: *mut u8,
+        map_len: usize,
+        id: u32,
+        list: *const u32,
+        list_len: usize,
+        zone: *mut u32,
+    ) -> u32;
+    fn shoalswift_claim(
+        map: *mut u8,
+        map_len: usize,
+        size: u64,
+        id: *mut u32,
+        start: *mut u32,
+        length: *mut u32,
+        zone: *mut u32,
+    ) -> u32;
+}
+
+/// What a call is lent. The same bytes serve every round, as new ones would
+/// have to be fetched into memory during the call.
+#[derive(Clone, Debug, PartialEq, Eq)]
+pub struct Lent {
+    pub map: Vec<u8>,
+    pub list: Vec<u32>,
+    pub image: Vec<u8>,
+}
+
+impl Lent {
+    /// Only a sweep is lent an image. No case holds one, as those of many
+    /// maps would be large.
+    pub fn new(case: &Case) -> Lent {
+        let sweeps = case.call.writes_image();
+        Lent {
+            map: case.map.clone(),
+            list: case.list.clone(),
+            image: vec![0; if sweeps { WINDOW } else { 0 }],
+        }
+    }
+
+    /// Makes everything as it is before the call. The case may be another one
+    /// of the same call and size.
+    pub fn reset(&mut self, case: &Case) {
+        self.map.copy_from_slice(&case.map);
+        self.list.copy_from_slice(&case.list);
+        self.image.fill(0);
+    }
+}
+
+/// The refusal's number and zone, and up to three values.
+#[derive(Clone, Copy, Debug, PartialEq, Eq)]
+pub struct Answer {
+    pub number: u32,
+    pub zone: u32,
+    pub values: [u64; 3],
+}
+
+/// A way to make a call.
+pub type Side = fn(&Case, &mut Lent) -> Answer;
+
+/// The call as the product makes it.
+pub fn product(case: &Case, lent: &mut Lent) -> Answer {
+    let (map, map_len) = (lent.map.as_mut_ptr(), lent.map.len());
+    let (list, list_len) = (lent.list.as_mut_ptr(), lent.list.len());
+    let (image, image_len) = (lent.image.as_mut_ptr(), lent.image.len());
+    let (wide, fill, id) = (case.wide, case.fill, case.number);
+    let (mut zone, mut value) = (0, 0);
+    let (mut new_id, mut start, mut length) = (0, 0, 0);
+    let (z, v) = (&mut zone, &mut value);
+    // SAFETY: each pointer and length come from one vector that outlives the
+    // call and is not otherwise used during it.
+    let number = unsafe {
+        match case.call {
+            Call::Check => shoalswift_check(map, map_len, z),
+            Call::List => shoalswift_list(map, map_len, id, list, list_len, v, z),
+            Call::Free => shoalswift_free(map, map_len, list, list_len, v, z),
+            Call::SweepFree => {
+                shoalswift_sweep_free(map, map_len, image, image_len, wide, fill, v, z)
+            }
+            Call::Release => shoalswift_release(map, map_len, id, list, list_len, v, z),
+            Call::Place => shoalswift_place(map, map_len, id, list, list_len, z),
+            Call::Claim => {
+                shoalswift_claim(map, map_len, wide, &mut new_id, &mut start, &mut length, z)
+            }
+            Call::Address | Call::SweepObject => unreachable!("not measured"),
+        }
+    };
+    let values = match case.call {
+        Call::Claim => [new_id, start, length].map(u64::from),
+        _ => [value, 0, 0],
+    };
+    Answer {
+        number,
+        zone,
+        values,
+    }
+}
+
+/// The call as the reference makes it.
+pub fn reference(case: &Case, lent: &mut Lent) -> Answer {
+    let (map, list) = (&mut lent.map, &mut lent.list);
+    let (wide, fill, id) = (case.wide, case.fill, case.number);
+    let one = |answer: Result<u64, Refusal>| answer.map(|value| [value, 0, 0]);
+    let answer = match case.call {
+        Call::Check => map::check(map).map(|_| [0; 3]),
+        Call::List => one(read::list(map, id, list)),
+        Call::Free => one(read::free(map, list)),
+        Call::SweepFree => one(read::sweep_free(map, &mut lent.image, wide, fill)),
+        Call::Release => one(edit::release(map, id, list)),
+        Call::Place => edit::place(map, id, list).map(|_| [0; 3]),
+        Call::Claim => {
+            edit::claim(map, wide).map(|new| [new.id, new.start, new.length].map(u64::from))
+        }
+        Call::Address | Call::SweepObject => unreachable!("not measured"),
+    };
+    let (number, zone, values) = match answer {
+        Ok(values) => (0, 0, values),
+        Err(refusal) => (refusal.number, refusal.zone, [0; 3]),
+    };
+    Answer {
+        number,
+        zone,
+        values,
+    }
+}
