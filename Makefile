@@ -3,13 +3,14 @@
 # make library    the static library for C and Rust
 # make compare    many generated maps through the library and through the second program (SEEDS=n for more), and that the
 #                 stored cases are current
+# make memcheck   the same on fewer maps, under valgrind
 # make bench      the library's time against the second program's, as ratios
 # make rust       the tests of the Rust binding
 # make cases      the stored cases of crate vectors, written again by the second program
 MAP ?= maps/a.map
 SEEDS ?= 40000
 
-.PHONY: all test library compare bench rust cases
+.PHONY: all test library compare memcheck bench rust cases
 
 all:
 	rt check map_lines
@@ -29,6 +30,10 @@ compare: library
 	second/target/release/cases second/target/cases
 	cmp second/target/cases/stdin crates/vectors/stdin
 	cmp second/target/cases/stdout crates/vectors/stdout
+
+memcheck: library
+	cd second && cargo build --release --offline -p compare
+	SEEDS=300 valgrind -q --error-exitcode=1 second/target/release/compare
 
 bench: library
 	cd second && cargo build --release --offline -p bench
