@@ -503,6 +503,9 @@ fn orders(cases: &mut Cases) {
     let object_2: Damage = |map| set_number(&mut map[256..512], 32, 11, 3);
     let disc_end: Damage = |map| set_number(&mut map[512..768], 1_932, 11, 3);
     let chain_gone_0: Damage = |map| map[1..3].copy_from_slice(&[0, 0x80]);
+    // Into the disc record, and onto the bit before the first allocation bit.
+    let link_record_0: Damage = |map| map[1..3].copy_from_slice(&[24, 0x80]);
+    let link_503_0: Damage = |map| map[1..3].copy_from_slice(&[0xF7, 0x81]);
     for (damages, repaired) in [
         (vec![check_2], false),
         (vec![check_1, check_2], false),
@@ -533,9 +536,16 @@ fn orders(cases: &mut Cases) {
         (vec![disc_end], true),
         (vec![disc_end, id_1], true),
         (vec![chain_gone_0], true),
+        (vec![link_record_0], true),
+        (vec![link_503_0], true),
     ] {
         cases.check(&damaged(&damages, repaired));
     }
+
+    // A free fragment past the disc's end.
+    let [zone_0, zone_1, _] = zones.clone();
+    let free_end = vec![object(7, 1_900), free(116)];
+    cases.check(&build(&record, &[zone_0, zone_1, free_end]));
 
     // A refused map against wrong arguments.
     let broken = damaged(&[disc_end], true);
