@@ -1,8 +1,9 @@
 -- A question to a call, and the numbers that it answers: computed from the definitions that the calls' contracts cite.
 -- Assumes nothing.
 use mathlib.Core.Bool.{Bool}
-use mathlib.Core.List.{List, [], _∷_}
+use mathlib.Core.List.{List, [], _∷_, _++_}
 use Prim.Native.Nat.{ℕ}
+use lib.ListN.{length}
 use Rattle.geometry.specs.declared.Geometry.{Geometry}
 use Rattle.geometry.specs.Places.{startZone}
 use Rattle.checks.specs.Cross.{changes}
@@ -12,7 +13,7 @@ use Rattle.listing.specs.Listed.{PairsFound, objectFound, freeFound}
 use Rattle.listing.specs.Listed as pairs
 use Rattle.reach.specs.Address.{AddressFound, addressFound}
 use Rattle.reach.specs.Address as reached
-use Rattle.reach.specs.Sweep.{ClassFound, objectSweep, freeSweep, coveredCount}
+use Rattle.reach.specs.Sweep.{ClassFound, objectSweep, freeSweep, coveredCount, imageAfter}
 use Rattle.reach.specs.Sweep as swept
 use Rattle.calls.specs.Edits.{Edit, takes, gives}
 use Rattle.calls.specs.Judge.{Call, need}
@@ -25,6 +26,7 @@ pub data Question : Type 0 where
   address : List ℕ → ℕ → ℕ → Question
   sweepObject : List ℕ → ℕ → ℕ → ℕ → Question
   sweepFree : List ℕ → ℕ → ℕ → Question
+  sweepImage : List ℕ → ℕ → ℕ → ℕ → List ℕ → Question
   edit : List ℕ → Call → Question
   after : List ℕ → Call → Question
   start : Geometry → ℕ → Question
@@ -61,6 +63,7 @@ answer (free m) = pairNumbers (freeFound m 64)
 answer (address m n position) = addressNumbers (addressFound m n position)
 answer (sweepObject m id first n) = countNumbers first n (objectSweep m id first n)
 answer (sweepFree m first n) = countNumbers first n (freeSweep m first n)
+answer (sweepImage m id first fill image) = let found = objectSweep m id first (length image) in countNumbers first (length image) found ++ imageAfter first fill image found
 answer (edit m c) = outcomeNumbers (outcome m c)
 answer (after m c) = step m c
 answer (start g id) = startZone g id ∷ []

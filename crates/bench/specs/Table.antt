@@ -7,7 +7,7 @@ use lib.ListN.{set}
 use Rattle.geometry.specs.Record.{geometryFrom}
 use Rattle.checks.specs.Maps.{mapA, mapB}
 use Rattle.calls.specs.Judge.{release, place, claim}
-use Rattle.bench.specs.Questions.{Question, check, list, free, address, sweepObject, sweepFree, edit, after, start, sizes, bitsFor, change, answer}
+use Rattle.bench.specs.Questions.{Question, check, list, free, address, sweepObject, sweepFree, sweepImage, edit, after, start, sizes, bitsFor, change, answer}
 
 pub record Row : Type 0 where
   pub question : Question
@@ -87,6 +87,8 @@ table =
     ∷ row (edit mapA (place 167 (24 ∷ 12 ∷ 12 ∷ 12 ∷ []))) (12 ∷ 0 ∷ [])
     -- B's free space starts at address 32,768.
     ∷ row (sweepFree mapB 32000 1000) (0 ∷ 232 ∷ [])
+    -- Bytes of the class are counted that held the fill before, too: two of these four are object 5's, and one of them changes.
+    ∷ row (sweepImage mapB 5 12286 7 (1 ∷ 1 ∷ 7 ∷ 1 ∷ [])) (0 ∷ 2 ∷ 1 ∷ 1 ∷ 7 ∷ 7 ∷ [])
     -- Where k is 8, m is rounded up to clusters and P's divisor is not; sizes are rounded up to clusters of 1,024 bytes.
     ∷ row (sizes (geometryFrom 10 14 7 1 1312 819200)) (6880 ∷ 16 ∷ 458 ∷ 819200 ∷ [])
     ∷ row (bitsFor (geometryFrom 10 14 7 1 1312 819200) 2048) (16 ∷ [])
