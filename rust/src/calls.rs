@@ -1,5 +1,5 @@
-//! The library's functions as C has them, and a safe function around each.
-//! Everything unsafe in this package is here.
+//! A safe function around each of the library's. Every unsafe call of this
+//! package is here.
 //!
 //! The header asks two things of a caller. Each pointer must be valid for its
 //! length, and non-null and aligned where the length is 0: the pointer and
@@ -9,83 +9,8 @@
 //! The library keeps no pointer, so no borrow is used after its call. It has no
 //! state and does not unwind, so calls may run on many threads at once.
 
+use crate::declared::*;
 use crate::{Claimed, Reason, Refusal};
-
-extern "C" {
-    fn shoalswift_check(map: *const u8, map_len: usize, zone: *mut u32) -> u32;
-    fn shoalswift_list(
-        map: *const u8,
-        map_len: usize,
-        id: u32,
-        list: *mut u32,
-        list_len: usize,
-        pairs: *mut u64,
-        zone: *mut u32,
-    ) -> u32;
-    fn shoalswift_free(
-        map: *const u8,
-        map_len: usize,
-        list: *mut u32,
-        list_len: usize,
-        pairs: *mut u64,
-        zone: *mut u32,
-    ) -> u32;
-    fn shoalswift_address(
-        map: *const u8,
-        map_len: usize,
-        n: u32,
-        position: u64,
-        address: *mut u64,
-        zone: *mut u32,
-    ) -> u32;
-    fn shoalswift_sweep_object(
-        map: *const u8,
-        map_len: usize,
-        image: *mut u8,
-        image_len: usize,
-        first: u64,
-        fill: u8,
-        id: u32,
-        count: *mut u64,
-        zone: *mut u32,
-    ) -> u32;
-    fn shoalswift_sweep_free(
-        map: *const u8,
-        map_len: usize,
-        image: *mut u8,
-        image_len: usize,
-        first: u64,
-        fill: u8,
-        count: *mut u64,
-        zone: *mut u32,
-    ) -> u32;
-    fn shoalswift_release(
-        map: *mut u8,
-        map_len: usize,
-        id: u32,
-        list: *mut u32,
-        list_len: usize,
-        pairs: *mut u64,
-        zone: *mut u32,
-    ) -> u32;
-    fn shoalswift_place(
-        map: *mut u8,
-        map_len: usize,
-        id: u32,
-        list: *const u32,
-        list_len: usize,
-        zone: *mut u32,
-    ) -> u32;
-    fn shoalswift_claim(
-        map: *mut u8,
-        map_len: usize,
-        size: u64,
-        id: *mut u32,
-        start: *mut u32,
-        length: *mut u32,
-        zone: *mut u32,
-    ) -> u32;
-}
 
 /// Number 0 is an accepted call.
 fn accepted(number: u32, zone: u32) -> Result<(), Refusal> {

@@ -22,6 +22,7 @@
 
 #[allow(unsafe_code)]
 mod calls;
+mod declared;
 mod refusal;
 
 pub use calls::{address, check, claim, free, list, place, release, sweep_free, sweep_object};

@@ -3,64 +3,8 @@
 use reference::case::{Call, Case};
 use reference::{edit, map, read, Refusal};
 
+use crate::declared::*;
 use crate::maps::WINDOW;
-
-extern "C" {
-    fn shoalswift_check(map: *const u8, map_len: usize, zone: *mut u32) -> u32;
-    fn shoalswift_list(
-        map: *const u8,
-        map_len: usize,
-        id: u32,
-        list: *mut u32,
-        list_len: usize,
-        pairs: *mut u64,
-        zone: *mut u32,
-    ) -> u32;
-    fn shoalswift_free(
-        map: *const u8,
-        map_len: usize,
-        list: *mut u32,
-        list_len: usize,
-        pairs: *mut u64,
-        zone: *mut u32,
-    ) -> u32;
-    fn shoalswift_sweep_free(
-        map: *const u8,
-        map_len: usize,
-        image: *mut u8,
-        image_len: usize,
-        first: u64,
-        fill: u8,
-        count: *mut u64,
-        zone: *mut u32,
-    ) -> u32;
-    fn shoalswift_release(
-        map: *mut u8,
-        map_len: usize,
-        id: u32,
-        list: *mut u32,
-        list_len: usize,
-        pairs: *mut u64,
-        zone: *mut u32,
-    ) -> u32;
-    fn shoalswift_place(
-        map: *mut u8,
-        map_len: usize,
-        id: u32,
-        list: *const u32,
-        list_len: usize,
-        zone: *mut u32,
-    ) -> u32;
-    fn shoalswift_claim(
-        map: *mut u8,
-        map_len: usize,
-        size: u64,
-        id: *mut u32,
-        start: *mut u32,
-        length: *mut u32,
-        zone: *mut u32,
-    ) -> u32;
-}
 
 /// What a call is lent. The same bytes serve every round, as new ones would
 /// have to be fetched into memory during the call.

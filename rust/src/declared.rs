@@ -1,0 +1,78 @@
+//! The functions of include/shoalswift.h, declared once for this package and for
+//! the programs that compare and time the library.
+
+extern "C" {
+    pub fn shoalswift_check(map: *const u8, map_len: usize, zone: *mut u32) -> u32;
+    pub fn shoalswift_list(
+        map: *const u8,
+        map_len: usize,
+        id: u32,
+        list: *mut u32,
+        list_len: usize,
+        pairs: *mut u64,
+        zone: *mut u32,
+    ) -> u32;
+    pub fn shoalswift_free(
+        map: *const u8,
+        map_len: usize,
+        list: *mut u32,
+        list_len: usize,
+        pairs: *mut u64,
+        zone: *mut u32,
+    ) -> u32;
+    pub fn shoalswift_address(
+        map: *const u8,
+        map_len: usize,
+        n: u32,
+        position: u64,
+        address: *mut u64,
+        zone: *mut u32,
+    ) -> u32;
+    pub fn shoalswift_sweep_object(
+        map: *const u8,
+        map_len: usize,
+        image: *mut u8,
+        image_len: usize,
+        first: u64,
+        fill: u8,
+        id: u32,
+        count: *mut u64,
+        zone: *mut u32,
+    ) -> u32;
+    pub fn shoalswift_sweep_free(
+        map: *const u8,
+        map_len: usize,
+        image: *mut u8,
+        image_len: usize,
+        first: u64,
+        fill: u8,
+        count: *mut u64,
+        zone: *mut u32,
+    ) -> u32;
+    pub fn shoalswift_release(
+        map: *mut u8,
+        map_len: usize,
+        id: u32,
+        list: *mut u32,
+        list_len: usize,
+        pairs: *mut u64,
+        zone: *mut u32,
+    ) -> u32;
+    pub fn shoalswift_place(
+        map: *mut u8,
+        map_len: usize,
+        id: u32,
+        list: *const u32,
+        list_len: usize,
+        zone: *mut u32,
+    ) -> u32;
+    pub fn shoalswift_claim(
+        map: *mut u8,
+        map_len: usize,
+        size: u64,
+        id: *mut u32,
+        start: *mut u32,
+        length: *mut u32,
+        zone: *mut u32,
+    ) -> u32;
+}
