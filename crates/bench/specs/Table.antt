@@ -3,9 +3,8 @@
 use mathlib.Core.Bool.{Bool, true, false}
 use mathlib.Core.List.{List, [], _∷_}
 use Prim.Native.Nat.{ℕ}
-use lib.ListN.{set}
 use Rattle.geometry.specs.Record.{geometryFrom}
-use Rattle.checks.specs.Maps.{mapA, mapB}
+use Rattle.checks.specs.Maps.{withBytes, mapA, mapB}
 use Rattle.calls.specs.Judge.{release, place, claim}
 use Rattle.bench.specs.Questions.{Question, check, list, free, address, sweepObject, sweepFree, sweepImage, edit, after, start, sizes, bitsFor, change, answer}
 
@@ -24,7 +23,7 @@ row q ns = record { question = q; numbers = ns }
 
 -- A with object 4 placed at (24,12)
 abbrev mapC : List ℕ
-mapC = set (set (set (set (set mapA 0 0x35) 65 136) 66 129) 67 4) 68 8
+mapC = withBytes ((0, 0x35) ∷ (65, 0x88) ∷ (66, 0x81) ∷ (67, 0x04) ∷ (68, 0x08) ∷ []) mapA
 
 abbrev pub table : List Row
 table =

@@ -44,9 +44,9 @@ asc-weak f [] a = tt
 asc-weak f (x ∷ xs) a = (a .0, weak-weaken xs (omega arith) (asc-weak (suc (x .at .start)) xs (a .1)))
 
 -- a piece that starts before all others goes first
-weak-first : (p : Piece) (f : ℕ) (l : List Piece) → p .at .start < f → Weak f l → insert p l ≡ p ∷ l
-weak-first p f [] h w = refl
-weak-first p f (x ∷ xs) h w = simp (lt-ltb (p .at .start) (x .at .start) (omega arith))
+pub insert-before : (p : Piece) (f : ℕ) (l : List Piece) → p .at .start < f → Weak f l → insert p l ≡ p ∷ l
+insert-before p f [] h w = refl
+insert-before p f (x ∷ xs) h w = simp (lt-ltb (p .at .start) (x .at .start) (omega arith))
 
 -- a test and a piece put in
 pub keep-insert-no : (t : Piece → Bool) (p : Piece) (l : List Piece) → t p ≡ false → keep t (insert p l) ≡ keep t l
@@ -62,7 +62,7 @@ keep-insert-by-place t f p (x ∷ xs) w e =
     by-test (ltb (p .at .start) (x .at .start))
     (λ h. by-test (t x)
     (λ k. simp (h, e, k))
-    (λ k. simp (h, e, k) (sym (weak-first p (x .at .start) (keep t xs) (ltb-true (p .at .start) (x .at .start) h) (weak-keep t (x .at .start) xs (w .1))))))
+    (λ k. simp (h, e, k) (sym (insert-before p (x .at .start) (keep t xs) (ltb-true (p .at .start) (x .at .start) h) (weak-keep t (x .at .start) xs (w .1))))))
     (λ h. by-test (t x)
     (λ k. simp (h, k, keep-insert-by-place t (x .at .start) p xs (w .1) e))
     (λ k. simp (h, k, keep-insert-by-place t (x .at .start) p xs (w .1) e)))

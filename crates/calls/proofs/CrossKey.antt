@@ -17,7 +17,7 @@ use Rattle.geometry.specs.declared.Geometry.{Geometry}
 use Rattle.geometry.specs.Accepted.{AcceptedGeometry}
 use Rattle.model.specs.Chain.{Pair}
 use Rattle.model.specs.Pieces.{Piece, piecesOf, objectPairs}
-use Rattle.calls.specs.Edits.{Disc, give, touchedFrom, touchedZones, crossed, Edit, takes, gives, edit}
+use Rattle.calls.specs.Edits.{Disc, give, touchedFrom, touchedZones, crossed, Edit, takes, gives, edit, editId}
 use Rattle.calls.specs.Holes.{holesFrom, allApart}
 use Rattle.calls.specs.Judge.{Call, release, place, claim, Verdict, refused, accepted, unless, isEmpty, editable, pairsFrom, listFits, need, firstHole, lowest, claimIn, judge, obey}
 use Rattle.calls.specs.Runs.{after, run, crossKey}
@@ -92,10 +92,6 @@ key-given g l r id (suc n) qs cs h a b o =
     ∙ key-given g l r id n qs (crossed g (objectPairs g n l) cs) (omega (arith, d)) a b o)
 
 -- an edit keeps the key
-abbrev pub editId : Edit → ℕ
-editId (takes id qs) = id
-editId (gives id qs) = id
-
 key-edit : (g : Geometry) (s : Disc) (e : Edit) (n : ℕ) → editId e < n → ListedAfter g (s .pieces) e ((edit g e s) .pieces)
     → crossKey g ((edit g e s) .pieces) n ((edit g e s) .cross) ≡ crossKey g (s .pieces) n (s .cross)
 key-edit g s (gives id qs) n h w = key-given g (s .pieces) ((edit g (gives id qs) s) .pieces) id n qs (s .cross) h (w .0) (w .1) (w .2)

@@ -29,10 +29,7 @@ own-without g id l = same-pieces g id (without id l) [] (keep-none (isOf id) l)
 pub other-without : (g : Geometry) (id j : ℕ) (l : List Piece) → (j ≡ id → ⊥) → objectPairs g j (without id l) ≡ objectPairs g j l
 other-without g id j l n = same-pieces g j (without id l) l (keep-keep (isOf j) (notOf id) l (λ x k. ap not (ne-eqb (x .owner) id (λ e. n (sym (eqb-true (x .owner) j k) ∙ e)))))
 
--- given pairs
-pub own-give : (g : Geometry) (id : ℕ) (qs : List Pair) (l : List Piece) → Allowed g l (gives id qs) → objectPairs g id (give id qs l) ≡ qs
-own-give g id qs l h = read-back g id qs l h
-
+-- given pairs: those of its own are read back (Undo), another object's stay
 none-of : (id j : ℕ) (qs : List Pair) → (j ≡ id → ⊥) → All (λ p. not (isOf j p)) (map (own id) qs)
 none-of id j [] n = tt
 none-of id j (q ∷ qs) n = (ap not (ne-eqb id j (λ e. n (sym e))), none-of id j qs n)
@@ -50,7 +47,7 @@ ListedAfter g l (gives id qs) r = (objectPairs g id l ≡ []) × (objectPairs g 
 
 pub listed-after : (g : Geometry) (s : Disc) (e : Edit) → Allowed g (s .pieces) e → ListedAfter g (s .pieces) e ((edit g e s) .pieces)
 listed-after g s (takes id qs) h = (sym h, own-without g id (s .pieces), λ j n. other-without g id j (s .pieces) n)
-listed-after g s (gives id qs) h = (same-pieces g id (s .pieces) [] (h .0), own-give g id qs (s .pieces) h, λ j n. other-give g id j qs (s .pieces) n)
+listed-after g s (gives id qs) h = (same-pieces g id (s .pieces) [] (h .0), read-back g id qs (s .pieces) h, λ j n. other-give g id j qs (s .pieces) n)
 
 pub reads-after : (g : Geometry) (s : Disc) (c : Call) (e : Edit) → AcceptedGeometry g → FitPieces g (s .pieces) → judge g (s .pieces) c ≡ accepted e
     → ListedAfter g (s .pieces) e ((after g s c) .pieces)

@@ -15,6 +15,7 @@ use Rattle.geometry.specs.Places.{discBits}
 use Rattle.model.specs.Chain.{Pair, numbersOf}
 use Rattle.model.specs.Pieces.{Piece, keep, isOf, piecesOf, late, rotate, objectPairs}
 use Rattle.model.proofs.ChainDrawn.{Lies}
+use Rattle.model.proofs.Lists.{length-numbers}
 use Rattle.calls.specs.Order.{rank}
 use Rattle.calls.specs.Edits.{without, own, give, takes, gives}
 use Rattle.calls.specs.Holes.{allApart}
@@ -28,14 +29,14 @@ use Rattle.calls.proofs.Invariant.{fit-asc}
 use Rattle.calls.proofs.Spaced.{isWithin, fit-lies, within-zones}
 
 -- a piece starts and ends with a cluster
-abbrev pub isAligned : Geometry → Piece → Bool
-isAligned g p = eqb (p .at .start % g .cluster) 0 && eqb (p .at .len % g .cluster) 0
+abbrev pub isWhole : ℕ → Piece → Bool
+isWhole k p = eqb (p .at .start % k) 0 && eqb (p .at .len % k) 0
 
 module _ (g : Geometry) (ok : AcceptedGeometry g) where
-  pair-fits : (p : Piece) → isLong (g .shortest) p ≡ true → isAligned g p ≡ true → isWithin g p ≡ true → p .at .start + p .at .len ≤ discBits g → pairFits g (p .at) ≡ true
+  pair-fits : (p : Piece) → isLong (g .shortest) p ≡ true → isWhole (g .cluster) p ≡ true → isWithin g p ≡ true → p .at .start + p .at .len ≤ discBits g → pairFits g (p .at) ≡ true
   pair-fits p a b c d =
-      and-true (leb (g .shortest) (p .at .len) && isAligned g p) (leb (p .at .start + p .at .len) (discBits g) && isWithin g p)
-      (and-true (leb (g .shortest) (p .at .len)) (isAligned g p) a b)
+      and-true (leb (g .shortest) (p .at .len) && isWhole (g .cluster) p) (leb (p .at .start + p .at .len) (discBits g) && isWithin g p)
+      (and-true (leb (g .shortest) (p .at .len)) (isWhole (g .cluster) p) a b)
       (and-true (leb (p .at .start + p .at .len) (discBits g)) (isWithin g p) (le-leb _ _ d) c)
 
   lies-le : (f : ℕ) (l : List Piece) → Lies f (discBits g) l → f ≤ discBits g
@@ -62,7 +63,7 @@ module _ (g : Geometry) (ok : AcceptedGeometry g) where
         (and-true (pairFits g (p .at)) (leb from (rank (late g id) (discBits g) (own id (p .at)))) a (le-leb from (rank (late g id) (discBits g) (own id (p .at))) (omega (arith, e))))
         (subst (λ (x : ℕ). pairsFit g id (x + p .at .len) rest ≡ true) (sym e) b)
 
-    early-fits : (f : ℕ) (l : List Piece) → Lies f (discBits g) l → All (λ p. not (late g id p)) l → All (isLong (g .shortest)) l → All (isAligned g) l → All (isWithin g) l
+    early-fits : (f : ℕ) (l : List Piece) → Lies f (discBits g) l → All (λ p. not (late g id p)) l → All (isLong (g .shortest)) l → All (isWhole (g .cluster)) l → All (isWithin g) l
         → pairsFit g id (discBits g + f) (map (λ p. p .at) l) ≡ true
     early-fits f [] w t a b c = refl
     early-fits f (p ∷ ps) w t a b c =
@@ -72,7 +73,7 @@ module _ (g : Geometry) (ok : AcceptedGeometry g) where
         (pair-fits p (a .0) (b .0) (c .0) (lies-le (p .at .start + p .at .len) ps (w .2)))
         (subst (λ (x : ℕ). pairsFit g id x (map (λ p. p .at) ps) ≡ true) (sym e) (early-fits (p .at .start + p .at .len) ps (w .2) (t .1) (a .1) (b .1) (c .1)))
 
-    late-fits : (f : ℕ) (l : List Piece) (rest : List Pair) → Lies f (discBits g) l → All (late g id) l → All (isLong (g .shortest)) l → All (isAligned g) l → All (isWithin g) l
+    late-fits : (f : ℕ) (l : List Piece) (rest : List Pair) → Lies f (discBits g) l → All (late g id) l → All (isLong (g .shortest)) l → All (isWhole (g .cluster)) l → All (isWithin g) l
         → ((x : ℕ) → x ≤ discBits g → pairsFit g id x rest ≡ true) → pairsFit g id f (map (λ p. p .at) l ++ rest) ≡ true
     late-fits f [] rest w t a b c r = r f w
     late-fits f (p ∷ ps) rest w t a b c r =
@@ -89,20 +90,20 @@ module _ (g : Geometry) (ok : AcceptedGeometry g) where
         and-true (pairFits g q && leb b r) (pairsFit g id (r + q .len) qs) (and-true (pairFits g q) (leb b r) (d .0) (le-leb b r (omega (arith, leb-true a r (d .1))))) (c .1)
 
     -- what an object lists is in object order
-    pub listed-fits : (l : List Piece) → FitPieces g l → All (isAligned g) l → pairsFit g id 0 (objectPairs g id l) ≡ true
+    pub listed-fits : (l : List Piece) → FitPieces g l → All (isWhole (g .cluster)) l → pairsFit g id 0 (objectPairs g id l) ≡ true
     listed-fits l k al =
         let X = piecesOf id l in
         let t = late g id in
         let w = lies-keep (isOf id) 0 l (fit-lies g ok l k) in
         let long = all-keep (isLong (g .shortest)) (isOf id) l (k .long) in
-        let fit = all-keep (isAligned g) (isOf id) l al in
+        let fit = all-keep (isWhole (g .cluster)) (isOf id) l al in
         let zone = all-keep (isWithin g) (isOf id) l (within-zones g ok l (k .long) (k .zoned) (k .parts)) in
         let early : pairsFit g id (discBits g + 0) (map (λ p. p .at) (keep (λ x. not (t x)) X)) ≡ true =
         early-fits 0 (keep (λ x. not (t x)) X) (lies-keep (λ x. not (t x)) 0 X w) (all-kept (λ x. not (t x)) X)
-        (all-keep (isLong (g .shortest)) (λ x. not (t x)) X long) (all-keep (isAligned g) (λ x. not (t x)) X fit) (all-keep (isWithin g) (λ x. not (t x)) X zone) in
+        (all-keep (isLong (g .shortest)) (λ x. not (t x)) X long) (all-keep (isWhole (g .cluster)) (λ x. not (t x)) X fit) (all-keep (isWithin g) (λ x. not (t x)) X zone) in
         subst (λ (qs : List Pair). pairsFit g id 0 qs ≡ true) (sym (map-append (λ (p : Piece). p .at) (keep t X) (keep (λ x. not (t x)) X)))
         (late-fits 0 (keep t X) (map (λ p. p .at) (keep (λ x. not (t x)) X)) (lies-keep t 0 X w) (all-kept t X)
-        (all-keep (isLong (g .shortest)) t X long) (all-keep (isAligned g) t X fit) (all-keep (isWithin g) t X zone)
+        (all-keep (isLong (g .shortest)) t X long) (all-keep (isWhole (g .cluster)) t X fit) (all-keep (isWithin g) t X zone)
         (λ x h. fits-lower (discBits g + 0) x (map (λ p. p .at) (keep (λ x. not (t x)) X)) (omega arith) early))
 
 -- lists of numbers and pairs
@@ -110,15 +111,11 @@ pub pairs-numbers : (qs : List Pair) → pairsFrom (numbersOf qs) ≡ qs
 pairs-numbers [] = refl
 pairs-numbers (q ∷ qs) = ap (λ (r : List Pair). q ∷ r) (pairs-numbers qs)
 
-pub length-numbers : (qs : List Pair) → length (numbersOf qs) ≡ 2 * length qs
-length-numbers [] = refl
-length-numbers (q ∷ qs) = omega (arith, length-numbers qs)
-
 is-empty : (l : List Piece) → l ≡ [] → isEmpty l ≡ true
 is-empty l e = ap isEmpty e
 
 -- the list that a release returned can be placed
-pub place-back : (g : Geometry) → AcceptedGeometry g → (id : ℕ) (l : List Piece) → FitPieces g l → All (isAligned g) l → editable g id ≡ true → (objectPairs g id l ≡ [] → ⊥)
+pub place-back : (g : Geometry) → AcceptedGeometry g → (id : ℕ) (l : List Piece) → FitPieces g l → All (isWhole (g .cluster)) l → editable g id ≡ true → (objectPairs g id l ≡ [] → ⊥)
     → judge g (without id l) (place id (numbersOf (objectPairs g id l))) ≡ accepted (gives id (objectPairs g id l))
 place-back g ok id l k al t n =
     let qs = objectPairs g id l in

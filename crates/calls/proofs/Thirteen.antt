@@ -14,7 +14,7 @@ use Rattle.bits.proofs.Tests.{by-test, both}
 use Rattle.geometry.specs.declared.Geometry.{Geometry}
 use Rattle.geometry.specs.Accepted.{AcceptedGeometry}
 use Rattle.geometry.specs.Places.{zoneOf, zoneFrom, zoneEnd, discBits, startZone}
-use Rattle.model.specs.Chain.{Pair}
+use Rattle.model.specs.Chain.{Pair, Within}
 use Rattle.model.specs.Pieces.{Piece, late}
 use Rattle.model.proofs.ChainDrawn.{Lies}
 use Rattle.calls.specs.Order.{rank}
@@ -22,7 +22,7 @@ use Rattle.calls.specs.Edits.{put, own, give, inZone}
 use Rattle.calls.specs.Holes.{allApart}
 use Rattle.calls.specs.Judge.{pairsFrom, pairFits, pairsFit, listFits}
 use Rattle.calls.proofs.Kept.{All, all-keep, all-put}
-use Rattle.calls.specs.Room.{In, Within, ShareNone, ListedFree, NoLeftover, RoomFor}
+use Rattle.calls.specs.Room.{In, ShareNone, ListedFree, NoLeftover, RoomFor}
 use Rattle.calls.proofs.Entries.{all-in, in-keep, in-kept, in-map, map-in}
 use Rattle.calls.proofs.ByPlace.{keep-put-by-place}
 use Rattle.calls.proofs.Gaps.{isLong, all-apart-at}

@@ -62,6 +62,10 @@ abbrev pub pairsIn : Edit → List Pair
 pairsIn (takes id qs) = qs
 pairsIn (gives id qs) = qs
 
+abbrev pub editId : Edit → ℕ
+editId (takes id qs) = id
+editId (gives id qs) = id
+
 abbrev pub edit : Geometry → Edit → Disc → Disc
 edit g (takes id qs) s = record { pieces = without id (s .pieces); cross = crossed g qs (s .cross) }
 edit g (gives id qs) s = record { pieces = give id qs (s .pieces); cross = crossed g qs (s .cross) }

@@ -6,7 +6,7 @@ use mathlib.Core.Logic.{_⊎_}
 use Prim.Native.Nat.{ℕ, _+_, _<_, _≤_}
 use Rattle.geometry.specs.declared.Geometry.{Geometry}
 use Rattle.geometry.specs.Places.{zoneFrom, zoneEnd}
-use Rattle.model.specs.Chain.{Pair}
+use Rattle.model.specs.Chain.{Pair, Within}
 use Rattle.model.specs.Pieces.{Piece}
 use Rattle.calls.specs.Edits.{give, inZone}
 use Rattle.calls.specs.Holes.{holes}
@@ -17,10 +17,7 @@ abbrev pub In : {A : Type 0} → A → List A → Type 0
 In h [] = ⊥
 In h (x ∷ xs) = (h ≡ x) ⊎ In h xs
 
--- bit d of the disc lies in a pair; no bit lies in both
-abbrev pub Within : Pair → ℕ → Type 0
-Within q d = (q .start ≤ d) × (d < q .start + q .len)
-
+-- no bit lies in both
 abbrev pub ShareNone : Pair → Pair → Type 0
 ShareNone q p = (d : ℕ) → Within q d → Within p d → ⊥
 

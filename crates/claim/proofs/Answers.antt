@@ -14,21 +14,21 @@ use Rattle.geometry.specs.declared.Refusal.{Refusal}
 use Rattle.geometry.specs.Record.{geometryOf}
 use Rattle.geometry.specs.Accepted.{AcceptedGeometry}
 use Rattle.geometry.specs.Answers.{refusal}
-use Rattle.model.specs.Chain.{Pair}
+use Rattle.model.specs.Chain.{Pair, pair}
 use Rattle.model.specs.Verdict.{entries, mapRead}
 use Rattle.model.specs.Verdict as read
 use Rattle.map.specs.declared.Checked.the-variants as check
 use Rattle.map.specs.Checked.{answer, checked}
 use Rattle.map.proofs.Answers.{read-refused}
 use Rattle.map.specs.Accepted.{AcceptedMap}
-use Rattle.listing.specs.Held.{heldFrom}
+use Rattle.listing.specs.HeldBy.{heldFrom}
 use Rattle.calls.specs.Edits.{gives}
 use Rattle.calls.specs.Judge.{claim, place, Verdict, accepted, need, firstHole, lowest, claimIn, judge}
 use Rattle.calls.specs.Judge as judged
 use Rattle.calls.proofs.ClaimFits.{first-in}
 use Rattle.calls.proofs.Fourteen.{no-fourteen}
 use Rattle.runs.specs.Steps.{Outcome, refused, touching, discOf, byTouching, byRead, outcome, bytesAfter, step}
-use Rattle.runs.specs.Editable.{zonesOf, zonesIn, Editable}
+use Rattle.runs.specs.Editable.{zonesOf, zonesIn, Editable, piecesOn}
 use Rattle.runs.proofs.Given.{given-placed}
 use Rattle.runs.proofs.MapAccepted.{map-disc}
 use Rattle.runs.proofs.RunsOnBytes.{step-refused, step-accepted}
@@ -36,7 +36,7 @@ use Rattle.holes.proofs.ZonesTouching.{zones-are}
 use Rattle.holes.proofs.HolesFree.{holes-are-free}
 use Rattle.claim.specs.declared.Claimed.the-variants as claimed
 use Rattle.claim.specs.Claimed.{answerOf, Claims}
-use Rattle.claim.specs.Given.{piecesOn, pair, PieceFits}
+use Rattle.claim.specs.Given.{PieceFits}
 use Rattle.claim.proofs.LowestFound.{fit-pieces}
 
 claims : (m : List ℕ) (size : ℕ) (o : Outcome) → outcome m (claim size) ≡ o → Claims m size (answerOf o) (bytesAfter m o)

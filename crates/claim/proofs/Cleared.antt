@@ -7,9 +7,9 @@ use Prim.Native.Nat.{ℕ, zero, suc, _+_, _-_, _*_, _<_, _≤_}
 use native.Mathlib.Nat.{mul-le-mul}
 use native.Mathlib.Omega.{arith}
 use lib.Dec.{ltb, leb}
-use lib.ListN.{length, getD, set, take, length-set, drop-of-length-le, List·getD-append}
+use lib.ListN.{length, getD, set, take, length-set, List·getD-append}
 use lib.Pow.{pow-mono}
-use lib.Seq.{drop-cons, getD-take, length-take-le, take-at}
+use lib.Seq.{take-at}
 use borrow.Author.Tests.{ltb-true}
 use Rattle.bits.proofs.Tests.{both}
 use Rattle.geometry.specs.declared.Geometry.{Geometry}
@@ -19,7 +19,7 @@ use Rattle.model.specs.Rules.{zoneBlock}
 use Rattle.model.specs.Verdict.{every, holderFits, idFits}
 use Rattle.zone.specs.Lines.{entriesIn, lines, holderNumber}
 use Rattle.zone.proofs.ListWalk.{length-lines}
-use Rattle.holes.proofs.LinesApart.{linesLeft}
+use Rattle.zone.proofs.LineThrees.{linesLeft, next-line, no-line}
 use Rattle.claim.specs.Unused.{cleared, holdersIn, holdersOf, holdersFrom}
 
 pub cleared-append : (hs ks : List ℕ) (bits : List Bool) → cleared (hs ++ ks) bits ≡ cleared ks (cleared hs bits)
@@ -32,17 +32,8 @@ length-cleared (h ∷ hs) bits = length-cleared hs (set bits h false) ∙ length
 
 -- the lines from line i on
 module _ (n : ℕ) (l : List ℕ) (sized : 3 * n ≤ length l) where
-  long : length (take (3 * n) l) ≡ 3 * n
-  long = length-take-le (3 * n) l sized
-
   holders-line : (i : ℕ) → i < n → holdersIn (linesLeft n l i) ≡ getD l (3 * i) 0 ∷ holdersIn (linesLeft n l (i + 1))
-  holders-line i h =
-      let t : List ℕ = take (3 * n) l in
-      let h0 : 3 * i < length t = omega (arith, long) in
-      let h1 : suc (3 * i) < length t = omega (arith, long) in
-      let h2 : suc (suc (3 * i)) < length t = omega (arith, long) in
-      let s : suc (suc (suc (3 * i))) ≡ 3 * (i + 1) = omega arith in
-      rw (drop-cons t (3 * i) 0 h0, drop-cons t (suc (3 * i)) 0 h1, drop-cons t (suc (suc (3 * i))) 0 h2, s, getD-take (3 * n) l (3 * i) 0 (omega arith))
+  holders-line i h = ap holdersIn (next-line n l sized i h)
 
   pub line-cleared : (i : ℕ) → i < n → (bits next all : List Bool) → next ≡ set bits (getD l (3 * i) 0) false → cleared (holdersIn (linesLeft n l i)) bits ≡ all
       → cleared (holdersIn (linesLeft n l (i + 1))) next ≡ all
@@ -51,7 +42,7 @@ module _ (n : ℕ) (l : List ℕ) (sized : 3 * n ≤ length l) where
 
   pub lines-cleared : (i : ℕ) → n ≤ i → (bits all : List Bool) → cleared (holdersIn (linesLeft n l i)) bits ≡ all → bits ≡ all
   lines-cleared i h bits all k =
-      let e : holdersIn (linesLeft n l i) ≡ [] = ap holdersIn (drop-of-length-le (take (3 * n) l) {i = 3 * i} (omega (arith, long))) in
+      let e : holdersIn (linesLeft n l i) ≡ [] = ap holdersIn (no-line n l sized i h) in
       sym (ap (λ (hs : List ℕ). cleared hs bits) e) ∙ k
 
 -- the lines of a zone

@@ -1,6 +1,5 @@
 pub mod NeedBits
 pub mod Cleared
 pub mod LowestFound
-pub mod OneBlock
 pub mod PieceGiven
 pub mod Answers

@@ -12,7 +12,7 @@ use lib.ListN.{length, getD, set, replicate, length-set, length-replicate, getD-
 use lib.Seq.{slice, slice-cons, getD-set-same, getD-set-other}
 use borrow.Author.Tests.{eqb-true, eqb-false}
 use Rattle.bits.specs.Bits.{byteBits, zeros}
-use Rattle.bits.proofs.Tests.{by-test}
+use Rattle.bits.proofs.Tests.{by-test, and-with-true, and-with-false, and-assoc}
 use Rattle.bits.proofs.Below.{at}
 use Rattle.bits.proofs.Bytes.{bit-at, length-byte-bits}
 use Rattle.geometry.specs.declared.Geometry.{Geometry}
@@ -26,24 +26,10 @@ use Rattle.listing.proofs.HeldZones.{ReadInTurn, zones-in-turn}
 use Rattle.calls.specs.Judge.{isEmpty, lowest}
 use Rattle.calls.proofs.Invariant.{FitPieces}
 use Rattle.calls.proofs.Fourteen.{no-fourteen}
-use Rattle.runs.specs.Editable.{zonesOf, zonesIn, Editable}
+use Rattle.runs.specs.Editable.{zonesOf, zonesIn, Editable, piecesOn}
 use Rattle.runs.proofs.MapAccepted.{map-disc}
 use Rattle.claim.specs.Unused.{cleared, holdersOf, holdersFrom}
-use Rattle.claim.specs.Given.{piecesOn}
 use Rattle.claim.proofs.Cleared.{cleared-append, length-cleared, holders-turn, holders-end, ids-some, ids-small}
-
--- tests
-and-true-right : (b : Bool) → b ≡ b && true
-and-true-right true = refl
-and-true-right false = refl
-
-and-false-right : (b : Bool) → false ≡ b && false
-and-false-right true = refl
-and-false-right false = refl
-
-and-assoc : (a b c : Bool) → (a && b) && c ≡ a && (b && c)
-and-assoc true b c = refl
-and-assoc false b c = refl
 
 empty-append : (i : ℕ) (ps qs : List Piece) → isEmpty (piecesOf i (ps ++ qs)) ≡ isEmpty (piecesOf i ps) && isEmpty (piecesOf i qs)
 empty-append i [] qs = refl
@@ -53,7 +39,7 @@ empty-append i (p ∷ ps) qs = by-test (eqb (p .owner) i) (λ t. simp t) (λ t. 
 module _ (g : Geometry) (i : ℕ) (low : 1 ≤ i) where
   zone-bit : (z : ℕ) (es : List Entry) (bits : List Bool) → i < length bits
       → getD (cleared (holdersOf es) bits) i false ≡ getD bits i false && isEmpty (piecesOf i (map (pieceToDisc g z) (ownedOf es)))
-  zone-bit z [] bits h = and-true-right (getD bits i false)
+  zone-bit z [] bits h = sym (and-with-true (getD bits i false))
   zone-bit z (e ∷ es) bits h = go (e .holder) (λ (n : ℕ). zone-bit z es (set bits n false) (omega (arith, length-set bits n false)))
     where
       go : (x : Holder) → ((n : ℕ) → getD (cleared (holdersOf es) (set bits n false)) i false ≡ getD (set bits n false) i false && isEmpty (piecesOf i (map (pieceToDisc g z) (ownedOf es))))
@@ -63,12 +49,12 @@ module _ (g : Geometry) (i : ℕ) (low : 1 ≤ i) where
           by-test (eqb id i)
           (λ t. let k : id ≡ i = eqb-true id i t in
           let s : getD (set bits id false) i false ≡ false = subst (λ (j : ℕ). getD (set bits id false) j false ≡ false) k (getD-set-same bits id false false (omega arith)) in
-          simp t (ih id ∙ ap (λ (b : Bool). b && isEmpty (piecesOf i (map (pieceToDisc g z) (ownedOf es)))) s ∙ and-false-right (getD bits i false)))
+          simp t (ih id ∙ ap (λ (b : Bool). b && isEmpty (piecesOf i (map (pieceToDisc g z) (ownedOf es)))) s ∙ sym (and-with-false (getD bits i false))))
           (λ t. simp t (ih id ∙ ap (λ (b : Bool). b && isEmpty (piecesOf i (map (pieceToDisc g z) (ownedOf es)))) (getD-set-other bits id i false false (λ k. eqb-false id i t (sym k)))))
 
   zones-bit : (m : List ℕ) (z : ℕ) (ess : List (List Entry)) → ReadInTurn m g z ess → (bits : List Bool) → i < length bits
       → getD (cleared (holdersFrom g m z (g .zones - z)) bits) i false ≡ getD bits i false && isEmpty (piecesOf i (piecesOfZones g z ess))
-  zones-bit m z [] r bits h = ap (λ (hs : List ℕ). getD (cleared hs bits) i false) (holders-end g m z (g .zones) (omega arith)) ∙ and-true-right (getD bits i false)
+  zones-bit m z [] r bits h = ap (λ (hs : List ℕ). getD (cleared hs bits) i false) (holders-end g m z (g .zones) (omega arith)) ∙ sym (and-with-true (getD bits i false))
   zones-bit m z (es ∷ ess) r bits h =
       let e : entriesIn g z (zoneBlock g m z) ≡ es = is-read g z (zoneBlock g m z) es (r .1) .0 in
       let s : z + 1 ≡ suc z = omega arith in

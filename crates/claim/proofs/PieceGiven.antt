@@ -3,8 +3,7 @@
 use mathlib.Core.Path.{_≡_, refl, sym, ap, ap₂, _∙_, subst}
 use mathlib.Core.Bool.{false, not}
 use mathlib.Core.List.{List, [], _∷_, map}
-use Prim.Native.Nat.{ℕ, zero, suc, _+_, _*_, _<_, _≤_}
-use native.Mathlib.Nat.{zero-add}
+use Prim.Native.Nat.{ℕ, zero, suc, _*_, _<_, _≤_}
 use native.Mathlib.Omega.{arith}
 use lib.Bits.{bitXor}
 use lib.Dec.{eqb, ltb, leb}
@@ -15,23 +14,21 @@ use Rattle.checks.specs.Cross.{crossOf, touchedCount}
 use Rattle.geometry.specs.declared.Geometry.{Geometry}
 use Rattle.geometry.specs.Record.{geometryOf}
 use Rattle.geometry.specs.Places.{zoneOf, discBits, firstBit, endBit}
-use Rattle.model.specs.Chain.{Pair, Entry}
+use Rattle.model.specs.Chain.{Pair, Entry, pair}
 use Rattle.model.specs.Blocks.{blockAt}
 use Rattle.model.specs.Pieces.{Piece, ownedOf}
 use Rattle.model.specs.Drawing.{Drawable}
-use Rattle.model.specs.Rules.{zoneBlock}
 use Rattle.model.proofs.ByPlace.{block-length}
 use Rattle.zone.specs.Lines.{entriesIn}
-use Rattle.zone.proofs.ReadParts.{is-read}
 use Rattle.map.specs.Accepted.{AcceptedMap}
-use Rattle.listing.proofs.HeldZones.{ReadInTurn, zones-in-turn, zone-reads}
+use Rattle.listing.proofs.HeldZones.{zone-reads, zone-entries}
 use Rattle.calls.specs.Edits.{notOf, without, put, own, gives, inZone, touches, touchedFrom}
 use Rattle.calls.specs.Judge.{place, accepted, judge}
 use Rattle.calls.proofs.Kept.{keep-all}
 use Rattle.calls.proofs.Invariant.{on-disc}
 use Rattle.calls.proofs.RunsKept.{allowed}
 use Rattle.runs.specs.Steps.{step}
-use Rattle.runs.specs.Editable.{zonesOf, zonesIn, Editable}
+use Rattle.runs.specs.Editable.{zonesOf, zonesIn, Editable, piecesOn}
 use Rattle.runs.specs.Written.{written, toBlock}
 use Rattle.runs.proofs.Gathered.{all-map}
 use Rattle.runs.proofs.Slices.{same-blocks}
@@ -39,9 +36,9 @@ use Rattle.runs.proofs.MapAccepted.{map-disc}
 use Rattle.runs.proofs.RunsOnBytes.{length-kept}
 use Rattle.runs.proofs.ZonesTouched.{changeAt}
 use Rattle.runs.proofs.ZonesAfter.{zone-at, zone-untouched, given-drawable, zone-given}
+use Rattle.runs.proofs.BlockPut.{putBlock, put-length, put-here, put-other}
 use Rattle.writer.specs.ZoneEdit.{editedPieces, ZoneEdit}
-use Rattle.claim.specs.Given.{piecesOn, pair, PieceFits}
-use Rattle.claim.proofs.OneBlock.{withBlock, over-length, new-block, old-block}
+use Rattle.claim.specs.Given.{PieceFits}
 
 -- zone z's block after the pair was drawn into it
 abbrev pub drawnBlock : Geometry → ℕ → ℕ → List ℕ → List ℕ → List ℕ
@@ -61,16 +58,6 @@ one-touched g q z (suc n) =
 
 no-change : (g : Geometry) (q : Pair) → changeAt g (q ∷ []) (zoneOf g (q .start)) ≡ 0
 no-change g q = simp (eq-eqb (zoneOf g (q .start)) (zoneOf g (q .start)) refl, le-leb (touchedCount (touchedFrom g (q ∷ []) 0 (g .zones))) 1 (one-touched g q 0 (g .zones)))
-
--- the entries that were read of a zone
-turn-at : (m : List ℕ) (g : Geometry) (z : ℕ) (ess : List (List Entry)) → ReadInTurn m g z ess → (i : ℕ) → z + i < g .zones → getD ess i [] ≡ entriesIn g (z + i) (zoneBlock g m (z + i))
-turn-at m g z [] r i h = absurd (omega arith)
-turn-at m g z (es ∷ ess) r zero h =
-    let e : z ≡ z + 0 = omega arith in
-    subst (λ (x : ℕ). es ≡ entriesIn g x (zoneBlock g m x)) e (sym (is-read g z (zoneBlock g m z) es (r .1) .0))
-turn-at m g z (es ∷ ess) r (suc i) h =
-    let e : suc z + i ≡ z + suc i = omega arith in
-    subst (λ (x : ℕ). getD ess i [] ≡ entriesIn g x (zoneBlock g m x)) e (turn-at m g (suc z) ess (r .2) i (omega arith))
 
 module _ (m : List ℕ) (id start len : ℕ) (ed : Editable m) (a : AcceptedMap m (geometryOf m))
     (v : judge (geometryOf m) (piecesOn (geometryOf m) m) (place id (start ∷ len ∷ [])) ≡ accepted (gives id (pair start len ∷ []))) where
@@ -96,10 +83,7 @@ module _ (m : List ℕ) (id start len : ℕ) (ed : Editable m) (a : AcceptedMap 
   zone-inside = on-disc g start (a .numbers) starts-on-disc
 
   entries-at : getD (zonesOf m) z [] ≡ entriesIn g z block
-  entries-at =
-      let t : ReadInTurn m g 0 (zonesOf m) = subst (ReadInTurn m g 0) (sym (ap zonesIn (a .read))) (zones-in-turn a) in
-      let h : 0 + z < g .zones = omega (arith, zone-inside) in
-      turn-at m g 0 (zonesOf m) t z h ∙ ap (λ (x : ℕ). entriesIn g x (zoneBlock g m x)) (zero-add z)
+  entries-at = ap (λ r. getD (zonesIn r) z []) (a .read) ∙ sym (zone-entries a z zone-inside)
 
   -- no piece is of object 0
   none-gone : ownedOf (getD (zonesOf m) z []) ≡ without 0 (ownedOf (entriesIn g z block))
@@ -134,16 +118,16 @@ module _ (m : List ℕ) (id start len : ℕ) (ed : Editable m) (a : AcceptedMap 
   }
 
   bytes-here : (new : List ℕ) → length new ≡ g .sector → new ≡ drawnBlock g id z list block
-      → withBlock (g .sector) z m new ≡ step m (place id list)
+      → putBlock (g .sector) z m new ≡ step m (place id list)
   bytes-here new n e =
-      same-blocks (g .sector) (g .zones) (withBlock (g .sector) z m new) (step m (place id list))
-      (over-length (g .sector) (g .zones) z m new (a .sized) zone-inside n)
+      same-blocks (g .sector) (g .zones) (putBlock (g .sector) z m new) (step m (place id list))
+      (put-length (g .sector) (g .zones) m new z (a .sized) zone-inside n)
       (length-kept m (zonesOf m) (ed .bytes) (ed .accepted) (ed .apart) (place id list ∷ []) ∙ a .sized)
       (λ i h. by-test (eqb i z)
-      (λ t. subst (λ (x : ℕ). blockAt (g .sector) x (withBlock (g .sector) z m new) ≡ blockAt (g .sector) x (step m (place id list))) (sym (eqb-true i z t))
-      (new-block (g .sector) (g .zones) z m new (a .sized) zone-inside n ∙ e ∙ sym given-block))
+      (λ t. subst (λ (x : ℕ). blockAt (g .sector) x (putBlock (g .sector) z m new) ≡ blockAt (g .sector) x (step m (place id list))) (sym (eqb-true i z t))
+      (put-here (g .sector) (g .zones) m new z (a .sized) zone-inside n ∙ e ∙ sym given-block))
       (λ t. let u : touches g i qs ≡ false = simp (ne-eqb z i (λ k. eqb-false i z t (sym k))) in
-      old-block (g .sector) (g .zones) z m new (a .sized) zone-inside n i h (eqb-false i z t)
+      put-other (g .sector) (g .zones) m new z (a .sized) zone-inside n i (eqb-false i z t)
       ∙ sym (zone-untouched m (zonesOf m) (ed .bytes) (ed .accepted) (ed .apart) (place id list) (gives id qs) v i h u)))
 
 -- for the geometry that the check gave
@@ -167,9 +151,9 @@ module _ {m : List ℕ} {g : Geometry} {id start len : ℕ} (f : PieceFits m g i
         (given (λ x. ZoneEdit x (zoneOf x start) (blockAt (x .sector) (zoneOf x start) m) 0 (start ∷ len ∷ []) id) (edit-here m id start len (f .editable)))
 
     pub piece-bytes : (new : List ℕ) → length new ≡ length (blockAt (g .sector) z m) → new ≡ drawnBlock g id z (start ∷ len ∷ []) (blockAt (g .sector) z m)
-        → withBlock (g .sector) z m new ≡ step m (place id (start ∷ len ∷ []))
+        → putBlock (g .sector) z m new ≡ step m (place id (start ∷ len ∷ []))
     piece-bytes new n =
-        subst (λ (i : ℕ). new ≡ drawnBlock g id i (start ∷ len ∷ []) (blockAt (g .sector) i m) → withBlock (g .sector) i m new ≡ step m (place id (start ∷ len ∷ []))) (sym e)
+        subst (λ (i : ℕ). new ≡ drawnBlock g id i (start ∷ len ∷ []) (blockAt (g .sector) i m) → putBlock (g .sector) i m new ≡ step m (place id (start ∷ len ∷ []))) (sym e)
         (given (λ x. length new ≡ x .sector → new ≡ drawnBlock x id (zoneOf x start) (start ∷ len ∷ []) (blockAt (x .sector) (zoneOf x start) m)
-        → withBlock (x .sector) (zoneOf x start) m new ≡ step m (place id (start ∷ len ∷ []))) (λ a v. bytes-here m id start len (f .editable) a v new)
+        → putBlock (x .sector) (zoneOf x start) m new ≡ step m (place id (start ∷ len ∷ []))) (λ a v. bytes-here m id start len (f .editable) a v new)
         (n ∙ block-length m (g .zones) (g .sector) (f .map-accepted .sized) z piece-zone))

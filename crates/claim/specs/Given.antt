@@ -3,19 +3,11 @@ use mathlib.Core.Path.{_≡_}
 use mathlib.Core.List.{List, [], _∷_}
 use Prim.Native.Nat.{ℕ}
 use Rattle.geometry.specs.declared.Geometry.{Geometry}
-use Rattle.model.specs.Chain.{Pair}
-use Rattle.model.specs.Pieces.{Piece, piecesOfZones}
+use Rattle.model.specs.Chain.{pair}
 use Rattle.map.specs.Accepted.{AcceptedMap}
 use Rattle.calls.specs.Edits.{gives}
 use Rattle.calls.specs.Judge.{place, accepted, judge}
-use Rattle.runs.specs.Editable.{zonesOf, Editable}
-
--- the pieces of a map
-abbrev pub piecesOn : Geometry → List ℕ → List Piece
-piecesOn g m = piecesOfZones g 0 (zonesOf m)
-
-abbrev pub pair : ℕ → ℕ → Pair
-pair start len = record { start = start; len = len }
+use Rattle.runs.specs.Editable.{piecesOn, Editable}
 
 pub record PieceFits (m : List ℕ) (g : Geometry) (id start len : ℕ) : Type 0 where
   pub map-accepted : AcceptedMap m g

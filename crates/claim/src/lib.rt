@@ -17,12 +17,12 @@ ghost use Rattle.bits.specs.Bits.{byteBits};
 ghost use Rattle.geometry.specs.Accepted.{AcceptedGeometry};
 ghost use Rattle.zone.specs.Lines.{entriesIn};
 ghost use Rattle.map.specs.Accepted.{AcceptedMap};
-ghost use Rattle.listing.specs.Held.{ReadZone};
+ghost use Rattle.listing.specs.HeldBy.{ReadZone};
 ghost use Rattle.calls.specs.Judge.{need, lowest, place};
 ghost use Rattle.runs.specs.Steps.{step};
-ghost use Rattle.runs.specs.Editable.{Editable};
+ghost use Rattle.runs.specs.Editable.{Editable, piecesOn};
 ghost use Rattle.claim.specs.Claimed.{Claims};
-ghost use Rattle.claim.specs.Given.{piecesOn, PieceFits};
+ghost use Rattle.claim.specs.Given.{PieceFits};
 ghost use Rattle.claim.specs.Unused.{cleared, holdersIn, holdersOf, holdersFrom};
 
 pub enum Claimed {

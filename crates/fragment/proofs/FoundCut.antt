@@ -12,10 +12,11 @@ use lib.ListN.{length, take, drop, take-append-drop, length-drop}
 use lib.Seq.{drop-drop, length-take-le}
 use Rattle.bits.specs.Bits.{value, zeros}
 use Rattle.model.specs.Fragments.{Fragment, closed, edge, within, grow, longer, cut}
+use Rattle.model.specs.Chain.{before}
 use Rattle.fragment.specs.Found.{fragment, pick}
 use Rattle.fragment.specs.declared.Found.{Found}
 use Rattle.fragment.specs.declared.Found.the-variants.{Whole, Broken}
-use Rattle.fragment.proofs.Step.{inFront, fragmentOf, cut-front}
+use Rattle.fragment.proofs.Step.{fragmentOf, cut-front}
 
 split-at-one : (r : List Bool) → zeros r < length r → r ≡ closed (zeros r) (drop (suc (zeros r)) r)
 split-at-one [] h = absurd (omega arith)
@@ -35,7 +36,7 @@ cut-none n [] z h = absurd (omega arith)
 cut-none n (b ∷ bs) z h = ap (grow b) (cut-unclosed n n bs (omega arith))
 
 cut-first : (n : ℕ) (bs : List Bool) → suc n + zeros (drop (suc n) bs) < length bs
-    → cut n edge bs ≡ inFront (fragmentOf (value (take (suc n) bs)) (suc n + zeros (drop (suc n) bs) + 1)) (cut n edge (drop (suc n + zeros (drop (suc n) bs) + 1) bs))
+    → cut n edge bs ≡ before (fragmentOf (value (take (suc n) bs)) (suc n + zeros (drop (suc n) bs) + 1)) (cut n edge (drop (suc n + zeros (drop (suc n) bs) + 1) bs))
 cut-first n bs h =
     let z : ℕ = zeros (drop (suc n) bs) in
     let e : suc (suc n + z) ≡ suc n + z + 1 = omega arith in
@@ -44,18 +45,18 @@ cut-first n bs h =
     let w : bs ≡ take (suc n) bs ++ closed z (drop (suc n + z + 1) bs) =
     sym (take-append-drop (suc n) bs) ∙ ap (λ (r : List Bool). take (suc n) bs ++ r) (split-at-one (drop (suc n) bs) (simp length-drop (omega arith)) ∙ ap (closed z) d) in
     ap (cut n edge) w ∙ cut-front n z (take (suc n) bs) (drop (suc n + z + 1) bs) (length-take-le (suc n) bs (omega arith))
-    ∙ ap (λ (l : ℕ). inFront (fragmentOf (value (take (suc n) bs)) l) (cut n edge (drop (suc n + z + 1) bs))) e
+    ∙ ap (λ (l : ℕ). before (fragmentOf (value (take (suc n) bs)) l) (cut n edge (drop (suc n + z + 1) bs))) e
 
 -- what an answer says
 pub record FoundWhole (n k : ℕ) (bs : List Bool) (id len : ℕ) : Type 0 where
-  pub cuts : cut n edge bs ≡ inFront (fragmentOf id len) (cut n edge (drop len bs))
+  pub cuts : cut n edge bs ≡ before (fragmentOf id len) (cut n edge (drop len bs))
   pub in-clusters : len % k ≡ 0
   pub some-bits : 0 < len
   pub within-bits : len ≤ length bs
 
 pub data FoundBroken (n k : ℕ) (bs : List Bool) : Type 0 where
   unclosed : cut n edge bs ≡ none → FoundBroken n k bs
-  uneven : (f : Fragment) (r : Option (List Fragment)) → cut n edge bs ≡ inFront f r → eqb (f .len % k) 0 ≡ false → FoundBroken n k bs
+  uneven : (f : Fragment) (r : Option (List Fragment)) → cut n edge bs ≡ before f r → eqb (f .len % k) 0 ≡ false → FoundBroken n k bs
 
 abbrev Meaning : ℕ → ℕ → List Bool → Found → Type 0
 Meaning n k bs (Whole id len) = FoundWhole n k bs id len

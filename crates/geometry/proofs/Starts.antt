@@ -11,7 +11,9 @@ use Rattle.geometry.specs.declared.Geometry.{Geometry}
 use Rattle.geometry.specs.declared.Start.the-variants as start
 use Rattle.geometry.specs.Record.{geometryFrom}
 use Rattle.geometry.specs.Places.{startZone}
-use Rattle.geometry.specs.Answers.{refusal, startOf, startNumbers}
+use Rattle.geometry.specs.Answers.{refusal, startOf, startNumbers, byName}
+use Rattle.geometry.specs.declared.Refusal.{Refusal}
+use mathlib.Core.Bool.{Bool, true, false}
 
 -- a product with a number below it has two factors above 0
 pub factors : (p q n : ℕ) → n < p * q → (0 < p) × (0 < q)
@@ -58,6 +60,15 @@ module _ (g : Geometry) (id : ℕ) where
 
     pub start-other : (id ≡ 2 → ⊥) → start.Zone (id / g .ids) ≡ startOf g id
     start-other e = rw (le-leb 1 id (omega arith), lt-ltb id (g .ids * g .zones) id-below, ne-eqb id 2 e)
+
+-- what an answer says of the id: it is named, or it is refused with 8
+pub named : (b : Bool) (z s : ℕ) → byName b z ≡ start.Zone s → (b ≡ true) × (s ≡ z)
+named true z s e = (refl, cc)
+named false z s e = let x : _≡_ {A = ℕ} 0 1 = cc in absurd (omega arith)
+
+pub not-named : (b : Bool) (z : ℕ) (r : Refusal) → byName b z ≡ start.Refused r → (b ≡ false) × (r ≡ refusal 8 0)
+not-named true z r e = let x : _≡_ {A = ℕ} 0 1 = cc in absurd (omega arith)
+not-named false z r e = (refl, cc)
 
 -- the bench line: id 690 with 168 ids a zone starts in zone 4
 pub object-690 : let g = geometryFrom 8 11 10 8 32 12582912 in (g .ids ≡ 168) × (startNumbers (startOf g 690) ≡ (0, 0, 4))

@@ -13,7 +13,7 @@ use Rattle.geometry.specs.declared.Geometry.{Geometry}
 use Rattle.model.specs.Chain.{Pair}
 use Rattle.model.proofs.Options.{none-some}
 use Rattle.calls.specs.Judge.{firstHole}
-use Rattle.listing.specs.Held.{heldIn, heldFrom}
+use Rattle.listing.specs.HeldBy.{heldIn, heldFrom}
 use Rattle.listing.proofs.HeldZones.{held-turn, held-end}
 use Rattle.listing.proofs.Lines.{pairIf, linesFrom, lines-turn, lines-end}
 use Rattle.holes.specs.Hole.{holeOf}

@@ -29,9 +29,9 @@ use Rattle.calls.proofs.Kept.{all-append}
 use Rattle.runs.specs.Steps.{touching}
 use Rattle.runs.proofs.ZonePlaces.{zoneOfPiece, zone-from, zone-end, zone-low, zone-bits, disc-zone}
 use Rattle.runs.proofs.Gathered.{all-map, FromZone, in-zone-part, later-part}
-use Rattle.runs.proofs.ZoneTests.{zone-tests}
+use Rattle.model.proofs.ZoneTests.{zone-tests}
 use Rattle.runs.proofs.ZoneFound.{drawn-zone}
-use Rattle.listing.specs.Held.{heldFrom}
+use Rattle.listing.specs.HeldBy.{heldFrom}
 use Rattle.listing.proofs.HeldZones.{ReadInTurn, zones-in-turn}
 use Rattle.listing.proofs.FreeHeld.{free-spans}
 use Rattle.runs.specs.Editable.{zonesIn}

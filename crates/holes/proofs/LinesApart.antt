@@ -4,11 +4,11 @@
 use mathlib.Core.Path.{_≡_, refl, sym, ap, _∙_}
 use mathlib.Core.Bool.{Bool, true, false, not, _&&_}
 use mathlib.Core.List.{List, [], _∷_, _++_}
-use Prim.Native.Nat.{ℕ, suc, _+_, _*_, _<_, _≤_}
+use Prim.Native.Nat.{ℕ, _+_, _*_, _<_, _≤_}
 use native.Mathlib.Omega.{arith}
 use lib.Dec.{eqb, leb, ltb}
-use lib.ListN.{length, getD, take, drop, drop-of-length-le}
-use lib.Seq.{drop-cons, getD-take, length-take-le, take-at}
+use lib.ListN.{length, getD, take}
+use lib.Seq.{take-at}
 use borrow.Author.Tests.{leb-true, ne-eqb}
 use Rattle.bits.proofs.Tests.{both}
 use Rattle.geometry.specs.declared.Geometry.{Geometry}
@@ -16,26 +16,14 @@ use Rattle.model.specs.Chain.{Holder, free, owned, Entry, isFree, noneTouch}
 use Rattle.model.specs.Verdict.{every, holderFits, idFits}
 use Rattle.zone.specs.Lines.{lines, holderNumber}
 use Rattle.zone.proofs.ListWalk.{length-lines}
+use Rattle.zone.proofs.LineThrees.{linesLeft, next-line, no-line}
 use Rattle.holes.specs.Touching.{apartLines}
 
--- of n lines, those from line i on
-abbrev pub linesLeft : ℕ → List ℕ → ℕ → List ℕ
-linesLeft n l i = drop (3 * i) (take (3 * n) l)
-
 module _ (n : ℕ) (l : List ℕ) (sized : 3 * n ≤ length l) where
-  long : length (take (3 * n) l) ≡ 3 * n
-  long = length-take-le (3 * n) l sized
-
   -- whether line i is free, and the lines after it
   apart-turn : (i : ℕ) → i < n → (wasFree : Bool)
       → apartLines wasFree (linesLeft n l i) ≡ not (wasFree && eqb (getD l (3 * i) 0) 0) && apartLines (eqb (getD l (3 * i) 0) 0) (linesLeft n l (i + 1))
-  apart-turn i h wasFree =
-      let t : List ℕ = take (3 * n) l in
-      let h0 : 3 * i < length t = omega (arith, long) in
-      let h1 : suc (3 * i) < length t = omega (arith, long) in
-      let h2 : suc (suc (3 * i)) < length t = omega (arith, long) in
-      let s : suc (suc (suc (3 * i))) ≡ 3 * (i + 1) = omega arith in
-      rw (drop-cons t (3 * i) 0 h0, drop-cons t (suc (3 * i)) 0 h1, drop-cons t (suc (suc (3 * i))) 0 h2, s, getD-take (3 * n) l (3 * i) 0 (omega arith))
+  apart-turn i h wasFree = ap (apartLines wasFree) (next-line n l sized i h)
 
   pub apart-stops : (i : ℕ) → i < n → (wasFree : Bool) → wasFree && eqb (getD l (3 * i) 0) 0 ≡ true → apartLines wasFree (linesLeft n l i) ≡ false
   apart-stops i h wasFree e = rw e at (apart-turn i h wasFree)
@@ -45,7 +33,7 @@ module _ (n : ℕ) (l : List ℕ) (sized : 3 * n ≤ length l) where
   apart-goes-on i h wasFree e = rw e at (apart-turn i h wasFree)
 
   pub apart-ends : (i : ℕ) → n ≤ i → (wasFree : Bool) → apartLines wasFree (linesLeft n l i) ≡ true
-  apart-ends i h wasFree = ap (apartLines wasFree) (drop-of-length-le (take (3 * n) l) {i = 3 * i} (omega (arith, long)))
+  apart-ends i h wasFree = ap (apartLines wasFree) (no-line n l sized i h)
 
 -- the lines of a zone
 number-free : (g : Geometry) (h : Holder) → holderFits g h ≡ true → eqb (holderNumber h) 0 ≡ isFree h

@@ -8,7 +8,7 @@ ghost use lib.ListN.{length, take};
 ghost use Rattle.model.specs.Chain.{noneTouch};
 ghost use Rattle.zone.specs.Lines.{entriesIn};
 ghost use Rattle.map.specs.Accepted.{AcceptedMap};
-ghost use Rattle.listing.specs.Held.{ReadZone, pairsIn, heldBy, inDiscBits, heldFrom};
+ghost use Rattle.listing.specs.HeldBy.{ReadZone, pairsIn, heldBy, inDiscBits, heldFrom};
 ghost use Rattle.calls.specs.Judge.{firstHole};
 ghost use Rattle.runs.specs.Steps.{touching};
 ghost use Rattle.runs.specs.Editable.{zonesOf};

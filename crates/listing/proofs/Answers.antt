@@ -1,7 +1,6 @@
 -- The answers of the two calls, case by case: the check's refusal, 8, 10, 17, and the pairs. A refusal leaves the list as it
 -- was; the pairs are stored from its first entry on.
 use mathlib.Core.Path.{_≡_, refl, sym, ap, _∙_}
-use mathlib.Core.Bool.{Bool, true, false}
 use mathlib.Core.List.{List, [], _∷_, _++_}
 use Prim.Native.Nat.{ℕ, _+_, _-_, _*_, _/_, _<_, _≤_}
 use native.Mathlib.Nat.{sub-zero}
@@ -16,8 +15,8 @@ use Rattle.geometry.specs.declared.Refusal.{Refusal}
 use Rattle.geometry.specs.declared.Start.the-variants as start
 use Rattle.geometry.specs.Record.{geometryOf}
 use Rattle.geometry.specs.Places.{idFrom, startZone}
-use Rattle.geometry.specs.Answers.{refusal, byName, startOf}
-use Rattle.geometry.proofs.Starts.{start-in-range}
+use Rattle.geometry.specs.Answers.{refusal, startOf}
+use Rattle.geometry.proofs.Starts.{start-in-range, named, not-named}
 use Rattle.model.specs.Chain.{Pair, numbersOf}
 use Rattle.model.specs.Verdict.{mapRead}
 use Rattle.model.specs.Verdict as read
@@ -27,7 +26,7 @@ use Rattle.map.specs.Checked.{answer, checked}
 use Rattle.map.proofs.Answers.{read-refused}
 use Rattle.map.specs.declared.Checked.the-variants as check
 use Rattle.listing.specs.declared.Listed.the-variants as listed
-use Rattle.listing.specs.Held.{heldFrom}
+use Rattle.listing.specs.HeldBy.{heldFrom}
 use Rattle.listing.specs.Listed.{PairsFound, found, refused, withRoom, present, objectRead, objectFound, freeRead, freeFound, Lists}
 use Rattle.listing.proofs.Stored.{stored-append, stored-first}
 use Rattle.listing.proofs.HeldZones.{held-all}
@@ -83,22 +82,13 @@ module _ {m : List ℕ} {g : Geometry} (a : AcceptedMap m g) (old : List ℕ) (n
       pairs-list (freeFound m (length old)) old new n (heldFrom g 0 m 0 (g .zones)) (free-found ∙ enough (length old) n (heldFrom g 0 m 0 (g .zones)) count h) count (omega arith)
       (e ∙ ap (λ (k : ℕ). sets old 0 (numbersOf (heldFrom g 0 m 0 k))) (sub-zero (g .zones)))
 
--- an object
-no-name : (b : Bool) (z : ℕ) (r : Refusal) → byName b z ≡ start.Refused r → (b ≡ false) × (r ≡ refusal 8 0)
-no-name true z r e = let x : _≡_ {A = ℕ} 0 1 = cc in absurd (omega arith)
-no-name false z r e = (refl, cc)
-
-named : (b : Bool) (z s : ℕ) → byName b z ≡ start.Zone s → (b ≡ true) × (s ≡ z)
-named true z s e = (refl, cc)
-named false z s e = let x : _≡_ {A = ℕ} 0 1 = cc in absurd (omega arith)
-
 module _ {m : List ℕ} {g : Geometry} (a : AcceptedMap m g) (id : ℕ) (old : List ℕ) where
   object-read : objectFound m id (length old) ≡ objectRead g id (length old) (read.entries (a .zones))
   object-read = (λ i. objectRead (sym (a .geometry) i) id (length old) (a .read i))
 
   pub start-refused : (r : Refusal) → startOf g id ≡ start.Refused r → Lists (objectFound m id (length old)) old (listed.Refused r) old
   start-refused r e =
-      let k = no-name (idFrom 1 g id) (startZone g id) r e in
+      let k = not-named (idFrom 1 g id) (startZone g id) r e in
       rw (k .1) (refusal-lists (objectFound m id (length old)) old 8 0 (object-read ∙ rw (k .0)))
 
   module _ (s : ℕ) (e : startOf g id ≡ start.Zone s) where

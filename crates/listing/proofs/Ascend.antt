@@ -15,7 +15,7 @@ use Rattle.model.specs.Rules.{zoneBlock}
 use Rattle.model.specs.Pieces.{toDisc}
 use Rattle.zone.specs.Lines.{entriesIn, holderNumber}
 use Rattle.map.specs.Accepted.{AcceptedMap}
-use Rattle.listing.specs.Held.{heldBy, inDiscBits, heldIn, heldFrom}
+use Rattle.listing.specs.HeldBy.{heldBy, inDiscBits, heldIn, heldFrom}
 use Rattle.listing.specs.Laws.{At, first, later}
 use Rattle.listing.proofs.Lines.{length-held}
 use Rattle.listing.proofs.HeldZones.{few-entries, zone-reads}

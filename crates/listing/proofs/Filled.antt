@@ -14,16 +14,17 @@ use Rattle.model.specs.Fragments.{Fragment}
 use Rattle.model.specs.Chain.{Entry, onward, follow}
 use Rattle.model.specs.Blocks.{linkIn, allocBits}
 use Rattle.model.specs.Rules.{zoneBlock}
-use Rattle.model.specs.Verdict.{good, zoneRead}
+use Rattle.model.specs.Verdict.{sound, zoneRead}
 use Rattle.model.specs.Pieces.{toDisc}
 use Rattle.model.proofs.FragmentsRead.{written-cut}
 use Rattle.model.proofs.Followed.{Long, total, Followed, was-free, was-owned, followed, none-left}
 use Rattle.model.proofs.ZoneDrawn.{length-frags, long-fit}
+use Rattle.model.proofs.ZoneTests.{zone-tests}
 use Rattle.zone.specs.Lines.{entriesIn}
 use Rattle.zone.proofs.AllocBits.{first-high, ZoneBlock, bits-left, alloc-all}
-use Rattle.zone.proofs.ReadParts.{read-parts, is-read}
+use Rattle.zone.proofs.ReadParts.{is-read}
 use Rattle.map.specs.Accepted.{AcceptedMap}
-use Rattle.listing.specs.Held.{ReadZone}
+use Rattle.listing.specs.HeldBy.{ReadZone}
 use Rattle.listing.proofs.HeldZones.{ReadInTurn, zones-in-turn, zone-reads}
 
 abbrev pub Fills : ℕ → ℕ → List Entry → Type 0
@@ -49,9 +50,9 @@ follow-fills at next end (f ∷ fs) es l t e = go es (followed at next f fs es e
 
 pub zone-fills : {g : Geometry} {z : ℕ} {b : List ℕ} → ReadZone g z b → Fills (firstBit z) (endBit g) (entriesIn g z b)
 zone-fills {g} {z} {b} r =
-    let p = read-parts g z b (entriesIn g z b) (r .kept) in
+    let p = zone-tests g z b (entriesIn g z b) (r .kept) in
     let k : ZoneBlock g b (endBit g) = record { numbers = r .numbers; sized = r .sized; ends = refl } in
-    let w = written-cut (g .idlen - 1) (allocBits (firstBit z) (endBit g) b) (p .fragments) (p .cuts) in
+    let w = written-cut (g .idlen - 1) (allocBits (firstBit z) (endBit g) b) (p .fragments) (p .cut) in
     let t : length (allocBits (firstBit z) (endBit g) b) ≡ total (p .fragments) = ap length (w .0) ∙ length-frags (suc (g .idlen - 1)) (p .fragments) (w .1) in
     let a : length (allocBits (firstBit z) (endBit g) b) ≡ endBit g - firstBit z = ap length (alloc-all k z (firstBit z) refl (first-low z) (first-high z)) ∙ bits-left k (firstBit z) in
     follow-fills (firstBit z) (onward 8 (linkIn b)) (endBit g) (p .fragments) (entriesIn g z b) (long-fit (suc (g .idlen - 1)) (p .fragments) (w .1))
@@ -79,11 +80,11 @@ zone-to : (g : Geometry) (z : ℕ) → discBit g z (endBit g) ≡ zoneFrom g (su
 zone-to g z = omega (arith, suc-mul z (g .bits))
 
 module _ {m : List ℕ} {g : Geometry} (a : AcceptedMap m g) where
-  pub entries-fill : (z : ℕ) (es : List Entry) → z < g .zones → zoneRead g z (zoneBlock g m z) ≡ good es → Fills (firstBit z) (endBit g) es
+  pub entries-fill : (z : ℕ) (es : List Entry) → z < g .zones → zoneRead g z (zoneBlock g m z) ≡ sound es → Fills (firstBit z) (endBit g) es
   entries-fill z es h e =
       subst (λ (x : List Entry). Fills (firstBit z) (endBit g) x) (is-read g z (zoneBlock g m z) es e .0) (zone-fills (zone-reads a z h))
 
-  pub disc-entries-fill : (z : ℕ) (es : List Entry) → z < g .zones → zoneRead g z (zoneBlock g m z) ≡ good es
+  pub disc-entries-fill : (z : ℕ) (es : List Entry) → z < g .zones → zoneRead g z (zoneBlock g m z) ≡ sound es
       → Fills (zoneFrom g z) (zoneFrom g (suc z)) (map (entryToDisc g z) es)
   disc-entries-fill z es h e =
       let f = disc-fills g z (firstBit z) (endBit g) es (from-zero-on g (a .numbers) z (firstBit z) (omega arith)) (entries-fill z es h e) in

@@ -11,18 +11,19 @@ use Rattle.bits.proofs.Tests.{both}
 use Rattle.geometry.specs.declared.Geometry.{Geometry}
 use Rattle.model.specs.Chain.{Pair, Holder, free, owned, Entry}
 use Rattle.model.specs.Rules.{zoneBlock}
-use Rattle.model.specs.Verdict.{good, zoneRead, every, holderFits, idFits, endFits, firstOwned}
+use Rattle.model.specs.Verdict.{sound, zoneRead, every, holderFits, idFits, endFits, firstOwned}
 use Rattle.model.specs.Pieces.{toDisc, freeIf, freeOf, freeSpans}
+use Rattle.model.proofs.ZoneTests.{zone-tests}
 use Rattle.zone.specs.Lines.{entriesIn, holderNumber}
-use Rattle.zone.proofs.ReadParts.{read-parts, is-read}
+use Rattle.zone.proofs.ReadParts.{is-read}
 use Rattle.map.specs.Accepted.{AcceptedMap}
-use Rattle.listing.specs.Held.{heldBy, inDiscBits, heldIn, heldFrom}
+use Rattle.listing.specs.HeldBy.{heldBy, inDiscBits, heldIn, heldFrom}
 use Rattle.listing.proofs.HeldZones.{held-turn, held-end, ReadInTurn, zones-in-turn}
 
 -- every holder of a zone that was read is free, or owned by 1 or more
-pub ids-fit : (g : Geometry) (z : ℕ) (b : List ℕ) (es : List Entry) → zoneRead g z b ≡ good es → every (idFits g) es ≡ true
+pub ids-fit : (g : Geometry) (z : ℕ) (b : List ℕ) (es : List Entry) → zoneRead g z b ≡ sound es → every (idFits g) es ≡ true
 ids-fit g z b es e =
-    let p = both (every (idFits g) es && every (endFits g z) es) (not (eqb z (g .zones / 2)) || firstOwned 2 es) (read-parts g z b es e .owners) in
+    let p = both (every (idFits g) es && every (endFits g z) es) (not (eqb z (g .zones / 2)) || firstOwned 2 es) (zone-tests g z b es e .owners) in
     both (every (idFits g) es) (every (endFits g z) es) (p .0) .0
 
 free-step : (g : Geometry) (h : Holder) (q : Pair) (ps qs : List Pair) → holderFits g h ≡ true → ps ≡ qs → cond (eqb (holderNumber h) 0) (q ∷ ps) ps ≡ freeIf h q qs

@@ -6,21 +6,21 @@ use Prim.Native.Nat.{ℕ, zero, suc, _+_, _-_, _*_, _<_, _≤_}
 use native.Mathlib.Nat.{add-zero, zero-add}
 use native.Mathlib.Omega.{arith}
 use lib.Dec.{ltb}
-use lib.ListN.{length, length-append}
+use lib.ListN.{length, length-append, getD}
 use lib.Seq.{sets}
 use borrow.Author.Tests.{ltb-true, ltb-false}
 use Rattle.bits.proofs.Tests.{by-test}
 use Rattle.geometry.specs.declared.Geometry.{Geometry}
 use Rattle.model.specs.Chain.{Pair, Entry, numbersOf}
 use Rattle.model.specs.Rules.{zoneBlock}
-use Rattle.model.specs.Verdict.{good, zoneRead}
+use Rattle.model.specs.Verdict.{sound, zoneRead}
 use Rattle.model.proofs.ByPlace.{block-length}
 use Rattle.zone.specs.Lines.{entriesIn, IsRead}
 use Rattle.zone.proofs.ReadParts.{is-read}
 use Rattle.zone.proofs.Few.{few}
 use Rattle.map.specs.Accepted.{AcceptedMap}
 use Rattle.map.proofs.Accepts.{ReadFrom, from-start, from-turn, from-end}
-use Rattle.listing.specs.Held.{ReadZone, heldBy, heldIn, heldFrom}
+use Rattle.listing.specs.HeldBy.{ReadZone, heldBy, heldIn, heldFrom}
 use Rattle.listing.proofs.Stored.{StoredSoFar, stored-room, stored-turn}
 use Rattle.listing.proofs.Lines.{length-held}
 
@@ -75,7 +75,7 @@ module _ (g : Geometry) (h : ℕ) (m : List ℕ) where
 -- the entries of the zones from z on, one zone after another
 abbrev pub ReadInTurn : List ℕ → Geometry → ℕ → List (List Entry) → Type 0
 ReadInTurn m g z [] = z ≡ g .zones
-ReadInTurn m g z (es ∷ ess) = (z < g .zones) × (zoneRead g z (zoneBlock g m z) ≡ good es) × ReadInTurn m g (suc z) ess
+ReadInTurn m g z (es ∷ ess) = (z < g .zones) × (zoneRead g z (zoneBlock g m z) ≡ sound es) × ReadInTurn m g (suc z) ess
 
 module _ (m : List ℕ) (g : Geometry) where
   in-turn : (z : ℕ) (ess : List (List Entry)) → z ≤ g .zones → ReadFrom m g z ess → ReadInTurn m g z ess
@@ -90,7 +90,7 @@ module _ (m : List ℕ) (g : Geometry) where
       let e1 : p .0 ≡ es = cc (p .2) in
       let e2 : p .1 ≡ ess = cc (p .2) in
       let f : z + 1 ≡ suc z = omega arith in
-      (l, p .3 ∙ ap good e1, in-turn (suc z) ess l (subst (λ (i : ℕ). ReadFrom m g i ess) f (subst (λ (r : List (List Entry)). ReadFrom m g (z + 1) r) e2 (p .4)))))
+      (l, p .3 ∙ ap sound e1, in-turn (suc z) ess l (subst (λ (i : ℕ). ReadFrom m g i ess) f (subst (λ (r : List (List Entry)). ReadFrom m g (z + 1) r) e2 (p .4)))))
       (λ t. absurd (cons≢nil (from-end m g z (ltb-false z (g .zones) t) (es ∷ ess) r)))
 
 module _ {m : List ℕ} {g : Geometry} (a : AcceptedMap m g) where
@@ -103,6 +103,20 @@ module _ {m : List ℕ} {g : Geometry} (a : AcceptedMap m g) where
       by-test (ltb z i)
       (λ t. read-at (suc z) ess (r .2) i (ltb-true z i t) h)
       (λ t. let e : z ≡ i = omega (arith, ltb-false) in subst (λ (x : ℕ). IsRead g x (zoneBlock g m x)) e (is-read g z (zoneBlock g m z) es (r .1) .1))
+
+  entries-from : (z : ℕ) (ess : List (List Entry)) → ReadInTurn m g z ess → (i : ℕ) → z + i < g .zones → entriesIn g (z + i) (zoneBlock g m (z + i)) ≡ getD ess i []
+  entries-from z [] r i h = absurd (omega arith)
+  entries-from z (es ∷ ess) r zero h =
+      let e : z + 0 ≡ z = omega arith in
+      ap (λ (x : ℕ). entriesIn g x (zoneBlock g m x)) e ∙ is-read g z (zoneBlock g m z) es (r .1) .0
+  entries-from z (es ∷ ess) r (suc i) h =
+      let e : z + suc i ≡ suc z + i = omega arith in
+      ap (λ (x : ℕ). entriesIn g x (zoneBlock g m x)) e ∙ entries-from (suc z) ess (r .2) i (omega arith)
+
+  pub zone-entries : (z : ℕ) → z < g .zones → entriesIn g z (zoneBlock g m z) ≡ getD (a .zones) z []
+  zone-entries z h =
+      let e : z ≡ 0 + z = omega arith in
+      ap (λ (x : ℕ). entriesIn g x (zoneBlock g m x)) e ∙ entries-from 0 (a .zones) zones-in-turn z (omega arith)
 
   pub zone-reads : (z : ℕ) → z < g .zones → ReadZone g z (zoneBlock g m z)
   zone-reads z h = record {

@@ -8,9 +8,9 @@ use native.Mathlib.Omega.{arith}
 use lib.Dec.{eqb, leb, ltb}
 use borrow.Author.Tests.{le-leb, lt-leb, lt-ltb, le-ltb, leb-true, ltb-true, ltb-false, eq-eqb, ne-eqb, eqb-true}
 use Rattle.bits.proofs.Tests.{by-test, both, and-true}
-use Rattle.model.specs.Chain.{Pair, Holder, free, owned, Entry}
+use Rattle.model.specs.Chain.{Pair, Holder, free, owned, Entry, Within}
 use Rattle.model.specs.Pieces.{Piece, keep, ownedIf, ownedOf, isOf, piecesOf, rotate, freeIf, freeOf}
-use Rattle.listing.specs.Laws.{Within, At, first, later}
+use Rattle.listing.specs.Laws.{At, first, later}
 use Rattle.listing.proofs.Filled.{Fills}
 use Rattle.listing.proofs.ObjectOrder.{places, places-append}
 

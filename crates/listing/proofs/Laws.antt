@@ -10,7 +10,7 @@ use Rattle.model.specs.Pieces.{piecesOfZones, objectPairs, freeSpans}
 use Rattle.map.specs.Accepted.{AcceptedMap}
 use Rattle.map.specs.Checked.{answer}
 use Rattle.map.proofs.Accepts.{accepts}
-use Rattle.listing.specs.Held.{heldFrom}
+use Rattle.listing.specs.HeldBy.{heldFrom}
 use Rattle.listing.specs.Laws.{Covers, ListingLaws}
 use Rattle.listing.proofs.FreeHeld.{free-spans}
 use Rattle.listing.proofs.ObjectOrder.{in-object-order}

@@ -3,19 +3,19 @@
 use mathlib.Core.Path.{_≡_, refl, sym, ap, _∙_}
 use mathlib.Core.Bool.{Bool, true, false, cond}
 use mathlib.Core.List.{List, [], _∷_, _++_}
-use Prim.Native.Nat.{ℕ, suc, _+_, _*_, _<_, _≤_}
-use native.Mathlib.Numerals.{add-one, add-two, add-three}
+use Prim.Native.Nat.{ℕ, _+_, _*_, _<_, _≤_}
 use native.Mathlib.Omega.{arith}
 use lib.Dec.{eqb}
-use lib.ListN.{length, getD, take, drop, length-append, length-map, drop-of-length-le}
-use lib.Seq.{sets, drop-cons, getD-take, length-take-le, take-at}
+use lib.ListN.{length, getD, take, length-append, length-map}
+use lib.Seq.{sets, take-at}
 use Rattle.bits.proofs.Tests.{by-test}
 use Rattle.geometry.specs.declared.Geometry.{Geometry}
 use Rattle.model.specs.Chain.{Pair, Entry, numbersOf}
 use Rattle.model.specs.Pieces.{toDisc}
 use Rattle.zone.specs.Lines.{lines, holderNumber}
 use Rattle.zone.proofs.ListWalk.{length-lines}
-use Rattle.listing.specs.Held.{pairsIn, heldBy, inDiscBits}
+use Rattle.zone.proofs.LineThrees.{linesLeft, next-line, no-line}
+use Rattle.listing.specs.HeldBy.{pairsIn, heldBy, inDiscBits}
 use Rattle.listing.proofs.Stored.{StoredSoFar, stored-room, stored-turn}
 
 -- a pair if it is wanted
@@ -36,36 +36,19 @@ pair-room false = refl
 
 -- the pairs of the n lines from line i on
 abbrev pub linesFrom : ℕ → ℕ → List ℕ → ℕ → List Pair
-linesFrom h n l i = pairsIn h (drop (3 * i) (take (3 * n) l))
-
-three-dropped : (l : List ℕ) (j : ℕ) → j + 3 ≤ length l → drop j l ≡ getD l j 0 ∷ getD l (j + 1) 0 ∷ getD l (j + 2) 0 ∷ drop (j + 3) l
-three-dropped l j h =
-    let h0 : j < length l = omega arith in
-    let h1 : suc j < length l = omega arith in
-    let h2 : suc (suc j) < length l = omega arith in
-    rw (add-one, add-two, add-three, drop-cons l j 0 h0, drop-cons l (suc j) 0 h1, drop-cons l (suc (suc j)) 0 h2)
+linesFrom h n l i = pairsIn h (linesLeft n l i)
 
 first-line : (h a d n : ℕ) (l : List ℕ) → pairsIn h (a ∷ d ∷ n ∷ l) ≡ pairIf (eqb a h) d n ++ pairsIn h l
 first-line h a d n l = by-test (eqb a h) (λ t. rw t) (λ t. rw t)
 
 module _ (h n : ℕ) (l : List ℕ) (sized : 3 * n ≤ length l) where
-  long : length (take (3 * n) l) ≡ 3 * n
-  long = length-take-le (3 * n) l sized
-
   pub lines-turn : (i : ℕ) → i < n
       → linesFrom h n l i ≡ pairIf (eqb (getD l (3 * i) 0) h) (getD l (3 * i + 1) 0) (getD l (3 * i + 2) 0) ++ linesFrom h n l (i + 1)
   lines-turn i k =
-      let t : List ℕ = take (3 * n) l in
-      let s : 3 * i + 3 ≡ 3 * (i + 1) = omega arith in
-      let e0 : getD t (3 * i) 0 ≡ getD l (3 * i) 0 = getD-take (3 * n) l (3 * i) 0 (omega arith) in
-      let e1 : getD t (3 * i + 1) 0 ≡ getD l (3 * i + 1) 0 = getD-take (3 * n) l (3 * i + 1) 0 (omega arith) in
-      let e2 : getD t (3 * i + 2) 0 ≡ getD l (3 * i + 2) 0 = getD-take (3 * n) l (3 * i + 2) 0 (omega arith) in
-      let r : drop (3 * i + 3) t ≡ drop (3 * (i + 1)) t = ap (λ (x : ℕ). drop x t) s in
-      ap (pairsIn h) (three-dropped t (3 * i) (omega (arith, long)) ∙ (λ j. e0 j ∷ e1 j ∷ e2 j ∷ r j))
-      ∙ first-line h (getD l (3 * i) 0) (getD l (3 * i + 1) 0) (getD l (3 * i + 2) 0) (drop (3 * (i + 1)) t)
+      ap (pairsIn h) (next-line n l sized i k) ∙ first-line h (getD l (3 * i) 0) (getD l (3 * i + 1) 0) (getD l (3 * i + 2) 0) (linesLeft n l (i + 1))
 
   pub lines-end : (i : ℕ) → n ≤ i → linesFrom h n l i ≡ []
-  lines-end i k = ap (pairsIn h) (drop-of-length-le (take (3 * n) l) {i = 3 * i} (omega (arith, long)))
+  lines-end i k = ap (pairsIn h) (no-line n l sized i k)
 
   -- counted and stored, one line more
   pub count-turn : (i count all r : ℕ) → i < n → count + length (linesFrom h n l i) ≡ all → r ≡ cond (eqb (getD l (3 * i) 0) h) 1 0

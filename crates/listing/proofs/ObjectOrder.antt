@@ -15,16 +15,13 @@ use Rattle.geometry.proofs.Bits.{zone-of-disc}
 use Rattle.model.specs.Chain.{Pair, Holder, free, owned, Entry}
 use Rattle.model.specs.Rules.{zoneBlock}
 use Rattle.model.specs.Pieces.{Piece, keep, ownedIf, ownedOf, toDisc, pieceToDisc, piecesOfZones, isOf, piecesOf, late, objectPairs}
+use Rattle.model.proofs.Lists.{keep-append}
 use Rattle.zone.specs.Lines.{entriesIn, holderNumber}
 use Rattle.zone.proofs.ReadParts.{is-read}
 use Rattle.map.specs.Accepted.{AcceptedMap}
-use Rattle.listing.specs.Held.{heldBy, inDiscBits, heldIn, heldFrom}
+use Rattle.listing.specs.HeldBy.{heldBy, inDiscBits, heldIn, heldFrom}
 use Rattle.listing.proofs.HeldZones.{held-turn, held-end, ReadInTurn, zones-in-turn}
 use Rattle.listing.proofs.Filled.{Fills, fills-le, entries-fill}
-
-pub keep-append : (t : Piece → Bool) (ps qs : List Piece) → keep t (ps ++ qs) ≡ keep t ps ++ keep t qs
-keep-append t [] qs = refl
-keep-append t (p ∷ ps) qs = by-test (t p) (λ h. simp (h, keep-append t ps qs)) (λ h. simp (h, keep-append t ps qs))
 
 -- the places of pieces
 abbrev pub places : List Piece → List Pair

@@ -10,14 +10,7 @@ use native.Mathlib.Omega.{arith}
 use lib.ListN.{length, drop, set, length-append}
 use lib.Seq.{sets, length-sets, sets-eq}
 use Rattle.model.specs.Chain.{Pair, numbersOf}
-
-pub length-numbers : (qs : List Pair) → length (numbersOf qs) ≡ 2 * length qs
-length-numbers [] = refl
-length-numbers (q ∷ qs) = omega (arith, length-numbers qs)
-
-pub numbers-append : (ps qs : List Pair) → numbersOf (ps ++ qs) ≡ numbersOf ps ++ numbersOf qs
-numbers-append [] qs = refl
-numbers-append (p ∷ ps) qs = ap (λ (r : List ℕ). p .start ∷ p .len ∷ r) (numbers-append ps qs)
+use Rattle.model.proofs.Lists.{length-numbers, numbers-append}
 
 -- stored in one run, or in two
 sets-append : (xs ys l : List ℕ) (i : ℕ) → sets l i (xs ++ ys) ≡ sets (sets l i xs) (i + length xs) ys

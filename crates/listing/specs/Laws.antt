@@ -5,15 +5,12 @@ use Prim.Native.Nat.{ℕ, suc, _+_, _-_, _<_, _≤_}
 use Rattle.geometry.specs.declared.Geometry.{Geometry}
 use Rattle.geometry.specs.Record.{geometryOf, geometryFrom}
 use Rattle.geometry.specs.Places.{discBits, startZone, discBit}
-use Rattle.model.specs.Chain.{Pair, Entry}
+use Rattle.model.specs.Chain.{Pair, Within, Entry}
 use Rattle.model.specs.Verdict.{entries, mapRead}
 use Rattle.model.specs.Pieces.{Piece, piecesOfZones, objectPairs, freeSpans}
-use Rattle.listing.specs.Held.{heldFrom}
+use Rattle.listing.specs.HeldBy.{heldFrom}
 
--- bit d of the disc lies in a pair; a pair stands at a place of a list
-abbrev pub Within : Pair → ℕ → Type 0
-Within q d = (q .start ≤ d) × (d < q .start + q .len)
-
+-- a pair stands at a place of a list
 pub data At : Pair → ℕ → List Pair → Type 0 where
   first : {q : Pair} {qs : List Pair} → At q 0 (q ∷ qs)
   later : {q p : Pair} {i : ℕ} {qs : List Pair} → At q i qs → At q (suc i) (p ∷ qs)

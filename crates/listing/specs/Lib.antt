@@ -1,3 +1,3 @@
-pub mod Held
+pub mod HeldBy
 pub mod Listed
 pub mod Laws

@@ -14,7 +14,7 @@ ghost use lib.Seq.{sets};
 ghost use Rattle.model.specs.Chain.{numbersOf};
 ghost use Rattle.map.specs.Accepted.{AcceptedMap};
 ghost use Rattle.zone.specs.Lines.{entriesIn};
-ghost use Rattle.listing.specs.Held.{ReadZone, pairsIn, heldBy, inDiscBits, heldFrom};
+ghost use Rattle.listing.specs.HeldBy.{ReadZone, pairsIn, heldBy, inDiscBits, heldFrom};
 ghost use Rattle.listing.specs.Listed.{objectFound, freeFound, Lists};
 ghost use Rattle.listing.specs.Laws.{ListingLaws};
 

@@ -15,7 +15,7 @@ use Rattle.geometry.specs.Ranges.{recordFits}
 use Rattle.geometry.proofs.Numbers.{test-gives-accepted}
 use Rattle.model.specs.Chain.{Entry}
 use Rattle.model.specs.Blocks.{blockAt}
-use Rattle.model.specs.Verdict.{ZoneRead, bad, good, zoneRead, MapRead, refused, entries, joinZone, zonesRead, badCheck, crossSum, afterChecks, blocksRead, blocksOf, lengthFits, mapRead}
+use Rattle.model.specs.Verdict.{ZoneRead, fault, sound, zoneRead, MapRead, refused, entries, joinZone, zonesRead, differing, crossSum, afterChecks, blocksRead, blocksOf, lengthFits, mapRead}
 use Rattle.map.specs.Checked.{answer, checked}
 use Rattle.map.specs.Accepted.{AcceptedMap}
 use Rattle.map.specs.declared.Checked.the-variants.{Accepted}
@@ -29,7 +29,7 @@ answer-parts g k (refused n i) e = let x : _≡_ {A = ℕ} 0 1 = cc in absurd (o
 answer-parts g k (entries ess) e = (ess, refl, cc)
 
 blocks-parts : (g : Geometry) (bs : List (List ℕ)) (ess : List (List Entry)) → blocksRead g bs ≡ entries ess → zonesRead g 0 bs ≡ entries ess
-blocks-parts g bs ess e = go (badCheck 0 bs) (eqb (crossSum bs) 255) e
+blocks-parts g bs ess e = go (differing 0 bs) (eqb (crossSum bs) 255) e
   where
     go : (o : Option ℕ) (b : Bool) → afterChecks o (cond b (zonesRead g 0 bs) (refused 4 0)) ≡ entries ess → zonesRead g 0 bs ≡ entries ess
     go none true e = e
@@ -57,10 +57,10 @@ accepts m g e =
 
 -- the zones walked: each is read, and what is left of the map's entries are those of the zones to come
 join-parts : (z : ℕ) (r : ZoneRead) (q : MapRead) (ess : List (List Entry)) → joinZone z r q ≡ entries ess
-    → (es : List Entry) × (fss : List (List Entry)) × (ess ≡ es ∷ fss) × (r ≡ good es) × (q ≡ entries fss)
-join-parts z (bad n) q ess e = absurd (refused-entries e)
-join-parts z (good es) (refused n i) ess e = absurd (refused-entries e)
-join-parts z (good es) (entries fss) ess e = (es, fss, cc, refl, refl)
+    → (es : List Entry) × (fss : List (List Entry)) × (ess ≡ es ∷ fss) × (r ≡ sound es) × (q ≡ entries fss)
+join-parts z (fault n) q ess e = absurd (refused-entries e)
+join-parts z (sound es) (refused n i) ess e = absurd (refused-entries e)
+join-parts z (sound es) (entries fss) ess e = (es, fss, cc, refl, refl)
 
 module _ (m : List ℕ) (g : Geometry) where
   abbrev pub ReadFrom : ℕ → List (List Entry) → Type 0
@@ -70,7 +70,7 @@ module _ (m : List ℕ) (g : Geometry) where
   from-start a = ap (zonesRead g 0) (rest-all m (g .zones) (g .sector)) ∙ a .zones-read
 
   pub from-turn : (z : ℕ) → z < g .zones → (ess : List (List Entry)) → ReadFrom z ess
-      → (es : List Entry) × (fss : List (List Entry)) × (ess ≡ es ∷ fss) × (zoneRead g z (blockAt (g .sector) z m) ≡ good es) × ReadFrom (z + 1) fss
+      → (es : List Entry) × (fss : List (List Entry)) × (ess ≡ es ∷ fss) × (zoneRead g z (blockAt (g .sector) z m) ≡ sound es) × ReadFrom (z + 1) fss
   from-turn z h ess f =
       let s : suc z ≡ z + 1 = omega arith in
       let t = join-parts z (zoneRead g z (blockAt (g .sector) z m)) (zonesRead g (suc z) (restFrom m (g .zones) (g .sector) (z + 1))) ess

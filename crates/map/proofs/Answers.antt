@@ -16,10 +16,10 @@ use Rattle.geometry.specs.Record.{discRecord, geometryOf}
 use Rattle.geometry.specs.Ranges.{recordFits}
 use Rattle.geometry.specs.Answers.{refusal, recordOf}
 use Rattle.geometry.proofs.Read.{accepted-says, refused-says}
-use Rattle.model.specs.Verdict.{MapRead, refused, entries, zonesRead, badCheck, crossSum, afterChecks, blocksRead, blocksOf}
-use Rattle.map.specs.Checked.{answer, checked, firstBad}
+use Rattle.model.specs.Verdict.{MapRead, refused, entries, zonesRead, differing, crossSum, afterChecks, blocksRead, blocksOf}
+use Rattle.map.specs.Checked.{answer, checked, firstDiffering}
 use Rattle.map.specs.declared.Checked.the-variants.{Accepted, Refused}
-use Rattle.map.specs.declared.FirstBad.the-variants as bad
+use Rattle.map.specs.declared.FirstDiffering.the-variants as first
 
 -- a map that the check refuses was read so
 pub read-refused : (g : Geometry) (q : MapRead) (r : Refusal) → answer g q ≡ Refused r → q ≡ refused (r .number) (r .zone)
@@ -53,20 +53,20 @@ module _ (m : List ℕ) where
 
 -- the zone checks, and the cross checks after them
 module _ (g : Geometry) (bs : List (List ℕ)) where
-  pub check-differs : (z : ℕ) → firstBad (badCheck 0 bs) ≡ bad.Zone z → Refused (refusal 3 z) ≡ answer g (blocksRead g bs)
-  check-differs z e = go (badCheck 0 bs) e
+  pub check-differs : (z : ℕ) → firstDiffering (differing 0 bs) ≡ first.Zone z → Refused (refusal 3 z) ≡ answer g (blocksRead g bs)
+  check-differs z e = go (differing 0 bs) e
     where
-      go : (o : Option ℕ) → firstBad o ≡ bad.Zone z → Refused (refusal 3 z) ≡ answer g (afterChecks o (cond (eqb (crossSum bs) 255) (zonesRead g 0 bs) (refused 4 0)))
+      go : (o : Option ℕ) → firstDiffering o ≡ first.Zone z → Refused (refusal 3 z) ≡ answer g (afterChecks o (cond (eqb (crossSum bs) 255) (zonesRead g 0 bs) (refused 4 0)))
       go none e = let x : _≡_ {A = ℕ} 0 1 = cc in absurd (omega arith)
       go (some i) e = let x : z ≡ i = cc in ap (λ (y : ℕ). Refused (refusal 3 y)) x
 
-  none-bad : (o : Option ℕ) → firstBad o ≡ bad.None → o ≡ none
-  none-bad none e = refl
-  none-bad (some i) e = let x : _≡_ {A = ℕ} 0 1 = cc in absurd (omega arith)
+  none-differs : (o : Option ℕ) → firstDiffering o ≡ first.None → o ≡ none
+  none-differs none e = refl
+  none-differs (some i) e = let x : _≡_ {A = ℕ} 0 1 = cc in absurd (omega arith)
 
-  module _ (e : firstBad (badCheck 0 bs) ≡ bad.None) (x : ℕ) (q : x ≡ crossSum bs) where
+  module _ (e : firstDiffering (differing 0 bs) ≡ first.None) (x : ℕ) (q : x ≡ crossSum bs) where
     after-checks : answer g (blocksRead g bs) ≡ answer g (cond (eqb (crossSum bs) 255) (zonesRead g 0 bs) (refused 4 0))
-    after-checks = ap (λ (o : Option ℕ). answer g (afterChecks o (cond (eqb (crossSum bs) 255) (zonesRead g 0 bs) (refused 4 0)))) (none-bad (badCheck 0 bs) e)
+    after-checks = ap (λ (o : Option ℕ). answer g (afterChecks o (cond (eqb (crossSum bs) 255) (zonesRead g 0 bs) (refused 4 0)))) (none-differs (differing 0 bs) e)
 
     pub cross-differs : (x ≡ 255 → ⊥) → Refused (refusal 4 0) ≡ answer g (blocksRead g bs)
     cross-differs n = sym (after-checks ∙ ap (λ (b : Bool). answer g (cond b (zonesRead g 0 bs) (refused 4 0))) (ne-eqb (crossSum bs) 255 (λ k. n (q ∙ k))))

@@ -11,18 +11,18 @@ use lib.ListN.{getD}
 use Rattle.checks.specs.Words.{zoneCheck}
 use Rattle.checks.specs.Cross.{crossOf}
 use Rattle.model.specs.Blocks.{blockAt}
-use Rattle.model.specs.Verdict.{badCheck, crossSum}
+use Rattle.model.specs.Verdict.{differing, crossSum}
 use Rattle.model.proofs.ByPlace.{restFrom, rest-cons, rest-none}
 
 module _ (m : List ℕ) (zones size : ℕ) where
   pub checks-turn : (z : ℕ) → z < zones → eqb (getD (blockAt size z m) 0 0) (zoneCheck (blockAt size z m)) ≡ true
-      → badCheck z (restFrom m zones size z) ≡ badCheck (z + 1) (restFrom m zones size (z + 1))
+      → differing z (restFrom m zones size z) ≡ differing (z + 1) (restFrom m zones size (z + 1))
   checks-turn z h t = let e : suc z ≡ z + 1 = omega arith in rw (rest-cons m zones size z h, t, e)
 
-  pub checks-stop : (z : ℕ) → z < zones → eqb (getD (blockAt size z m) 0 0) (zoneCheck (blockAt size z m)) ≡ false → badCheck z (restFrom m zones size z) ≡ some z
+  pub checks-stop : (z : ℕ) → z < zones → eqb (getD (blockAt size z m) 0 0) (zoneCheck (blockAt size z m)) ≡ false → differing z (restFrom m zones size z) ≡ some z
   checks-stop z h t = rw (rest-cons m zones size z h, t)
 
-  pub checks-end : (z : ℕ) → zones ≤ z → badCheck z (restFrom m zones size z) ≡ none
+  pub checks-end : (z : ℕ) → zones ≤ z → differing z (restFrom m zones size z) ≡ none
   checks-end z h = rw (rest-none m zones size z h)
 
   -- from the last zone down

@@ -7,7 +7,7 @@ use native.Mathlib.Omega.{arith}
 use Rattle.geometry.specs.declared.Geometry.{Geometry}
 use Rattle.geometry.specs.Answers.{refusal}
 use Rattle.model.specs.Blocks.{blockAt}
-use Rattle.model.specs.Verdict.{ZoneRead, bad, good, zoneRead, MapRead, refused, entries, joinZone, zonesRead, blocksOf}
+use Rattle.model.specs.Verdict.{ZoneRead, fault, sound, zoneRead, MapRead, refused, entries, joinZone, zonesRead, blocksOf}
 use Rattle.zone.specs.Walk.{verdictOf}
 use Rattle.zone.specs.declared.ZoneVerdict.the-variants.{Kept, Broken}
 use Rattle.map.specs.Checked.{answer}
@@ -16,13 +16,13 @@ use Rattle.map.specs.declared.Checked.the-variants.{Accepted, Refused}
 use Rattle.model.proofs.ByPlace.{restFrom, rest-cons, rest-none, rest-all}
 
 join-kept : (g : Geometry) (z : ℕ) (r : ZoneRead) (q : MapRead) → Kept ≡ verdictOf r → answer g (joinZone z r q) ≡ answer g q
-join-kept g z (good es) (refused n i) e = refl
-join-kept g z (good es) (entries ess) e = refl
-join-kept g z (bad n) q e = let x : _≡_ {A = ℕ} 0 1 = cc in absurd (omega arith)
+join-kept g z (sound es) (refused n i) e = refl
+join-kept g z (sound es) (entries ess) e = refl
+join-kept g z (fault n) q e = let x : _≡_ {A = ℕ} 0 1 = cc in absurd (omega arith)
 
 join-broken : (g : Geometry) (z n : ℕ) (r : ZoneRead) (q : MapRead) → Broken n ≡ verdictOf r → answer g (joinZone z r q) ≡ Refused (refusal n z)
-join-broken g z n (good es) q e = let x : _≡_ {A = ℕ} 0 1 = cc in absurd (omega arith)
-join-broken g z n (bad i) q e = let k : i ≡ n = cc in ap (λ (x : ℕ). Refused (refusal x z)) k
+join-broken g z n (sound es) q e = let x : _≡_ {A = ℕ} 0 1 = cc in absurd (omega arith)
+join-broken g z n (fault i) q e = let k : i ≡ n = cc in ap (λ (x : ℕ). Refused (refusal x z)) k
 
 module _ (m : List ℕ) (g : Geometry) where
   abbrev pub answerFrom : ℕ → Checked

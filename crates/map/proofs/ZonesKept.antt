@@ -5,10 +5,10 @@ use Prim.Native.Nat.{ℕ, _*_, _<_, _≤_}
 use lib.ListN.{length}
 use Rattle.geometry.specs.declared.Geometry.{Geometry}
 use Rattle.model.specs.Chain.{Entry}
-use Rattle.model.specs.Verdict.{good, zoneRead}
+use Rattle.model.specs.Verdict.{sound, zoneRead}
 use Rattle.model.specs.Rules.{zoneBlock, ZoneRules}
 use Rattle.model.specs.Table.{judgementOf}
-use Rattle.model.proofs.Judging.{accepted-keeps-rules}
+use Rattle.model.proofs.MapJudged.{accepted-keeps-rules}
 use Rattle.model.proofs.Zones.{rules-read}
 use Rattle.model.proofs.ByPlace.{block-length}
 use Rattle.zone.specs.Lines.{entriesOf, entriesIn, IsRead}
@@ -24,7 +24,7 @@ module _ (m : List ℕ) (g : Geometry) (a : AcceptedMap m g) (z : ℕ) (h : z < 
   pub zone-kept : IsRead g z (zoneBlock g m z)
   zone-kept =
       let w = rules-read g (a .numbers) z (zoneBlock g m z) zone-rules in
-      w .1 ∙ ap good (sym (ap entriesOf (w .1)))
+      w .1 ∙ ap sound (sym (ap entriesOf (w .1)))
 
   pub zone-sized : length (zoneBlock g m z) ≡ g .sector
   zone-sized = block-length m (g .zones) (g .sector) (a .sized) z h

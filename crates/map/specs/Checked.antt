@@ -8,8 +8,8 @@ use Rattle.geometry.specs.Answers.{refusal}
 use Rattle.model.specs.Verdict.{MapRead, refused, entries, mapRead}
 use Rattle.map.specs.declared.Checked.{Checked}
 use Rattle.map.specs.declared.Checked.the-variants.{Accepted, Refused}
-use Rattle.map.specs.declared.FirstBad.{FirstBad}
-use Rattle.map.specs.declared.FirstBad.the-variants as bad
+use Rattle.map.specs.declared.FirstDiffering.{FirstDiffering}
+use Rattle.map.specs.declared.FirstDiffering.the-variants as first
 
 abbrev pub answer : Geometry → MapRead → Checked
 answer g (refused n z) = Refused (refusal n z)
@@ -23,6 +23,6 @@ abbrev pub checkNumbers : Checked → ℕ × ℕ
 checkNumbers (Accepted g) = (0, 0)
 checkNumbers (Refused r) = (r .number, r .zone)
 
-abbrev pub firstBad : Option ℕ → FirstBad
-firstBad none = bad.None
-firstBad (some z) = bad.Zone z
+abbrev pub firstDiffering : Option ℕ → FirstDiffering
+firstDiffering none = first.None
+firstDiffering (some z) = first.Zone z

@@ -11,8 +11,8 @@ ghost use lib.ListN.{length, getD};
 ghost use Rattle.checks.specs.Words.{zoneCheck};
 ghost use Rattle.checks.specs.Cross.{crossOf};
 ghost use Rattle.geometry.specs.Accepted.{AcceptedGeometry};
-ghost use Rattle.model.specs.Verdict.{zonesRead, badCheck, crossSum, blocksRead, blocksOf};
-ghost use Rattle.map.specs.Checked.{firstBad, answer, checked};
+ghost use Rattle.model.specs.Verdict.{zonesRead, differing, crossSum, blocksRead, blocksOf};
+ghost use Rattle.map.specs.Checked.{firstDiffering, answer, checked};
 
 pub enum Checked {
     Accepted(Geometry),
@@ -40,8 +40,8 @@ fn check_blocks(map: &[u8], g: Geometry) -> Checked
     ensures { λ r. ⌜ r ≡ answer g (blocksRead g (blocksOf g (now (map .entry)))) ⌝ }
 {
     match zone_checks(map, g) {
-        FirstBad::Zone(zone) => Checked::Refused(Refusal { number: 3, zone }),
-        FirstBad::None => {
+        FirstDiffering::Zone(zone) => Checked::Refused(Refusal { number: 3, zone }),
+        FirstDiffering::None => {
             if cross_checks(map, g) != 255 {
                 return Checked::Refused(Refusal { number: 4, zone: 0 });
             }
@@ -51,14 +51,14 @@ fn check_blocks(map: &[u8], g: Geometry) -> Checked
 }
 
 // The first zone whose check differs.
-enum FirstBad {
+enum FirstDiffering {
     None,
     Zone(u32),
 }
 
-fn zone_checks(map: &[u8], g: Geometry) -> FirstBad
+fn zone_checks(map: &[u8], g: Geometry) -> FirstDiffering
     requires { ⌜ AcceptedGeometry g × (length (now map) ≡ g .zones * g .sector) ⌝ }
-    ensures { λ r. ⌜ r ≡ firstBad (badCheck 0 (blocksOf g (now (map .entry)))) ⌝ }
+    ensures { λ r. ⌜ r ≡ firstDiffering (differing 0 (blocksOf g (now (map .entry)))) ⌝ }
 {
     let zones = g.zones;
     let size = g.sector;
@@ -67,11 +67,11 @@ fn zone_checks(map: &[u8], g: Geometry) -> FirstBad
         let a = z * size;
         let e = a + size;
         if !check_holds(&map[a..e]) {
-            return FirstBad::Zone(z as u32);
+            return FirstDiffering::Zone(z as u32);
         }
         z += 1;
     }
-    FirstBad::None
+    FirstDiffering::None
 }
 
 // Whether a block's first byte is its zone check.

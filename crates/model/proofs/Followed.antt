@@ -23,9 +23,9 @@ abbrev pub total : List Fragment → ℕ
 total [] = 0
 total (f ∷ fs) = f .len + total fs
 
-pub before-inv : (e : Entry) (r : Option (List Entry)) (es : List Entry) → before e r ≡ some es → (gs : List Entry) × (r ≡ some gs) × (es ≡ e ∷ gs)
-before-inv e none es h = absurd (none-some h)
-before-inv e (some gs) es h = (gs, refl, sym (some-some h))
+pub before-inv : {A : Type 0} (x : A) (r : Option (List A)) (xs : List A) → before x r ≡ some xs → (ys : List A) × (r ≡ some ys) × (xs ≡ x ∷ ys)
+before-inv x none xs h = absurd (none-some h)
+before-inv x (some ys) xs h = (ys, refl, sym (some-some h))
 
 -- the two ways on
 pub data Followed (at next : ℕ) (f : Fragment) (fs : List Fragment) : List Entry → Type 0 where

@@ -8,4 +8,7 @@ pub mod Holders
 pub mod Owners
 pub mod Zones
 pub mod ByPlace
-pub mod Judging
+pub mod BlocksJudged
+pub mod MapJudged
+pub mod ZoneTests
+pub mod Lists

@@ -25,7 +25,7 @@ use Rattle.model.proofs.FragmentsRead.{cut-written, written-cut}
 use Rattle.model.proofs.Followed.{Long, total}
 use Rattle.model.proofs.ChainDrawn.{Lies, follow-drawn, drawn-follow, linked, free-or-ahead, link-back, follow-lies}
 
-hole-le : (n at end : ℕ) → Hole n at end → at ≤ end
+pub hole-le : (n at end : ℕ) → Hole n at end → at ≤ end
 hole-le n at end (inl e) = omega arith
 hole-le n at end (inr e) = omega arith
 

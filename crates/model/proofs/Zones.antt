@@ -17,7 +17,7 @@ use Rattle.model.specs.Fragments.{Fragment, fragmentBits, Formed, InClus
 use Rattle.model.specs.Chain.{Entry, onward, follow}
 use Rattle.model.specs.Blocks.{freeLink, linkIn, allocBits}
 use Rattle.model.specs.Rules.{FragmentRule, ChainRule, OwnerRule, ZoneRules}
-use Rattle.model.specs.Verdict.{ZoneRead, bad, good, inClusters, ownersFit, afterFollow, afterCut, zoneRead}
+use Rattle.model.specs.Verdict.{ZoneRead, fault, sound, inClusters, ownersFit, afterFollow, afterCut, zoneRead}
 use Rattle.model.specs.Table.{ZoneFault, six, five, seven}
 use Rattle.model.proofs.Options.{none-some, some-some}
 use Rattle.model.proofs.FragmentsRead.{cut-written, written-cut}
@@ -36,8 +36,8 @@ clusters-fit k (f ∷ fs) w = and-true (eqb (f .len % k) 0) (inClusters k fs) (e
 
 -- what a zone read says
 pub data ZoneSays (g : Geometry) (z : ℕ) (b : List ℕ) : ZoneRead → Type 0 where
-  kept : (es : List Entry) → ZoneRules g z b → ZoneSays g z b (good es)
-  broken : (n : ℕ) → ZoneFault g z b n → ZoneSays g z b (bad n)
+  kept : (es : List Entry) → ZoneRules g z b → ZoneSays g z b (sound es)
+  broken : (n : ℕ) → ZoneFault g z b n → ZoneSays g z b (fault n)
 
 module _ (g : Geometry) (ok : AcceptedGeometry g) (z : ℕ) (b : List ℕ) where
   abbrev bits : List Bool
@@ -70,7 +70,7 @@ module _ (g : Geometry) (ok : AcceptedGeometry g) (z : ℕ) (b : List ℕ) where
 
   -- the walk's answer, test by test
   after-owners : (fs : List Fragment) (es : List Entry) → FragmentRule g z b fs → ChainRule z b fs → follow (firstBit z) (onward 8 (linkIn b)) fs ≡ some es
-      → (t : Bool) → ownersFit g z es ≡ t → ZoneSays g z b (cond t (good es) (bad 7))
+      → (t : Bool) → ownersFit g z es ≡ t → ZoneSays g z b (cond t (sound es) (fault 7))
   after-owners fs es r c e true t =
       kept es (record { fragments = fs; fragment-rule = r; chain-rule = c; owner-rule = owners-hold g ok z b fs es (fragments-long fs r) e t })
   after-owners fs es r c e false t = broken 7 (seven fs r c (λ w. false≢true (sym t ∙ owners-fit g ok z b fs es (fragments-long fs r) e w)))
@@ -82,12 +82,12 @@ module _ (g : Geometry) (ok : AcceptedGeometry g) (z : ℕ) (b : List ℕ) where
       after-owners fs es r (record { top-bit = h; land = follow-lands (firstBit z) (onward 8 (linkIn b)) fs es some-place (fragments-long fs r) e }) e (ownersFit g z es) refl
 
   after-top : (fs : List Fragment) → FragmentRule g z b fs → (t : Bool) → leb 32768 (freeLink b) ≡ t
-      → ZoneSays g z b (cond t (afterFollow g z (follow (firstBit z) (onward 8 (linkIn b)) fs)) (bad 5))
+      → ZoneSays g z b (cond t (afterFollow g z (follow (firstBit z) (onward 8 (linkIn b)) fs)) (fault 5))
   after-top fs r true t = after-chain fs r (leb-true 32768 (freeLink b) t) (follow (firstBit z) (onward 8 (linkIn b)) fs) refl
   after-top fs r false t = broken 5 (five fs r (λ c. false≢true (sym t ∙ le-leb 32768 (freeLink b) (c .top-bit))))
 
   after-clusters : (fs : List Fragment) → fragmentsIn (g .idlen) bits ≡ some fs → (t : Bool) → inClusters (g .cluster) fs ≡ t
-      → ZoneSays g z b (cond t (cond (leb 32768 (freeLink b)) (afterFollow g z (follow (firstBit z) (onward 8 (linkIn b)) fs)) (bad 5)) (bad 6))
+      → ZoneSays g z b (cond t (cond (leb 32768 (freeLink b)) (afterFollow g z (follow (firstBit z) (onward 8 (linkIn b)) fs)) (fault 5)) (fault 6))
   after-clusters fs e true t = after-top fs (fragments-hold fs e t) (leb 32768 (freeLink b)) refl
   after-clusters fs e false t =
       broken 6 (six (λ gs r. let q : gs ≡ fs = some-some (sym (fragments-read gs r) ∙ e) in
@@ -118,16 +118,16 @@ module _ (g : Geometry) (ok : AcceptedGeometry g) (z : ℕ) (b : List ℕ) where
   one-fault m n (seven fs r c f) (seven gs s d h) = refl
 
   -- both ways
-  pub rules-read : ZoneRules g z b → (es : List Entry) × (zoneRead g z b ≡ good es)
+  pub rules-read : ZoneRules g z b → (es : List Entry) × (zoneRead g z b ≡ sound es)
   rules-read w = go (zoneRead g z b) refl zone-says
     where
-      go : (r : ZoneRead) → zoneRead g z b ≡ r → ZoneSays g z b r → (es : List Entry) × (r ≡ good es)
+      go : (r : ZoneRead) → zoneRead g z b ≡ r → ZoneSays g z b r → (es : List Entry) × (r ≡ sound es)
       go r e (kept es v) = (es, refl)
       go r e (broken n f) = absurd (no-fault n w f)
 
-  pub fault-read : (n : ℕ) → ZoneFault g z b n → zoneRead g z b ≡ bad n
+  pub fault-read : (n : ℕ) → ZoneFault g z b n → zoneRead g z b ≡ fault n
   fault-read n f = go (zoneRead g z b) zone-says
     where
-      go : (r : ZoneRead) → ZoneSays g z b r → r ≡ bad n
+      go : (r : ZoneRead) → ZoneSays g z b r → r ≡ fault n
       go r (kept es v) = absurd (no-fault n v f)
-      go r (broken m h) = ap bad (one-fault m n h f)
+      go r (broken m h) = ap fault (one-fault m n h f)

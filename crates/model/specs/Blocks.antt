@@ -16,7 +16,10 @@ flat (b ∷ bs) = b ++ flat bs
 
 -- "Each zone's block is handed on as its own stretch of the map": from z*S to (z+1)*S
 abbrev pub blockAt : ℕ → ℕ → List ℕ → List ℕ
-blockAt size z m = take (z * size + size - z * size) (drop (z * size) m)
+blockAt size z m =
+    let from : ℕ = z * size in
+    let to : ℕ = z * size + size in
+    take (to - from) (drop from m)
 
 -- "FreeLink is bytes 1 and 2, low byte first, top bit set; the other 15 bits .."
 abbrev pub freeLink : List ℕ → ℕ

@@ -4,7 +4,7 @@ use mathlib.Core.Path.{_≡_}
 use mathlib.Core.Bool.{Bool, true, false, cond, not, _&&_}
 use mathlib.Core.List.{List, [], _∷_}
 use mathlib.Core.Option.{Option, none, some}
-use Prim.Native.Nat.{ℕ, _+_}
+use Prim.Native.Nat.{ℕ, _+_, _<_, _≤_}
 use lib.Dec.{eqb}
 use Rattle.model.specs.Fragments.{Fragment}
 
@@ -12,6 +12,13 @@ use Rattle.model.specs.Fragments.{Fragment}
 pub record Pair : Type 0 where
   pub start : ℕ
   pub len : ℕ
+
+abbrev pub pair : ℕ → ℕ → Pair
+pair start len = record { start = start; len = len }
+
+-- bit d lies in a stretch
+abbrev pub Within : Pair → ℕ → Type 0
+Within q d = (q .start ≤ d) × (d < q .start + q .len)
 
 -- pairs as the numbers of a list: "disc bit, length in map bits"
 abbrev pub numbersOf : List Pair → List ℕ
@@ -28,7 +35,7 @@ pub record Entry : Type 0 where
   pub holder : Holder
 
 abbrev pub entry : ℕ → Fragment → Holder → Entry
-entry at f h = record { at = record { start = at; len = f .len }; holder = h }
+entry at f h = record { at = pair at (f .len); holder = h }
 
 -- Where a link leads that is counted from a place: on by so many bits, or nowhere, which is 0. "FreeLink .. count[s] from
 -- block bit 8 to the first free fragment, or [is] 0. A free fragment's id counts from its own start to the next one, or
@@ -52,9 +59,9 @@ LinksLand at next fs = (a : ℕ) → OnChain at next fs a → (f : Fragment) × 
 
 -- The same computed: the chain followed through the fragments, none where a link is left that lands nowhere. "Fragments on
 -- the chain are free; all others are owned by their id".
-abbrev pub before : Entry → Option (List Entry) → Option (List Entry)
-before e none = none
-before e (some es) = some (e ∷ es)
+abbrev pub before : {A : Type 0} → A → Option (List A) → Option (List A)
+before x none = none
+before x (some xs) = some (x ∷ xs)
 
 abbrev pub follow : ℕ → ℕ → List Fragment → Option (List Entry)
 follow at next [] = cond (eqb next 0) (some []) none

@@ -1,5 +1,6 @@
 -- The rules that an accepted map keeps, as document 01 states them and in its order. Nothing here is computed: these are
--- the sentences to hold against the paper. `Laws` shows that the check accepts a map exactly when they hold.
+-- the sentences to hold against the paper. `CheckIsTable` (Table.antt) shows that the check accepts a map exactly
+-- when they hold.
 -- Assumes nothing.
 use mathlib.Core.Path.{_≡_}
 use mathlib.Core.List.{List, [], _∷_, map}

@@ -1,6 +1,6 @@
 -- The table of refusals 1 to 7 (document 01, "Numbered refusals"): each line says when its number is given and which zone is
--- told, in the order "1 (under 64), 2, 1, 3 over all zones, 4; then zone by zone 6, 5, 7". `Laws` shows that the check
--- answers r exactly when `Judged m r`. Assumes nothing.
+-- told, in the order "1 (under 64), 2, 1, 3 over all zones, 4; then zone by zone 6, 5, 7". `CheckIsTable` below
+-- shows that the check answers r exactly when `Judged m r`. Assumes nothing.
 use mathlib.Core.Path.{_≡_}
 use mathlib.Core.List.{List}
 use Prim.Native.Nat.{ℕ, _*_, _<_, _≤_}

@@ -19,8 +19,8 @@ use Rattle.model.specs.Blocks.{blocks, freeLink, linkIn, allocBits}
 
 -- a zone: its entries, or the number that it is refused with
 pub data ZoneRead : Type 0 where
-  bad : ℕ → ZoneRead
-  good : List Entry → ZoneRead
+  fault : ℕ → ZoneRead
+  sound : List Entry → ZoneRead
 
 -- every entry passes a test
 abbrev pub every : (Entry → Bool) → List Entry → Bool
@@ -56,15 +56,15 @@ ownersFit g z es = (every (idFits g) es && every (endFits g z) es) && (not (eqb 
 
 -- 6, then 5, then 7
 abbrev pub afterFollow : Geometry → ℕ → Option (List Entry) → ZoneRead
-afterFollow g z none = bad 5
-afterFollow g z (some es) = cond (ownersFit g z es) (good es) (bad 7)
+afterFollow g z none = fault 5
+afterFollow g z (some es) = cond (ownersFit g z es) (sound es) (fault 7)
 
 abbrev pub afterCut : Geometry → ℕ → List ℕ → Option (List Fragment) → ZoneRead
-afterCut g z b none = bad 6
+afterCut g z b none = fault 6
 afterCut g z b (some fs) =
     cond (inClusters (g .cluster) fs)
-    (cond (leb 32768 (freeLink b)) (afterFollow g z (follow (firstBit z) (onward 8 (linkIn b)) fs)) (bad 5))
-    (bad 6)
+    (cond (leb 32768 (freeLink b)) (afterFollow g z (follow (firstBit z) (onward 8 (linkIn b)) fs)) (fault 5))
+    (fault 6)
 
 abbrev pub zoneRead : Geometry → ℕ → List ℕ → ZoneRead
 zoneRead g z b = afterCut g z b (fragmentsIn (g .idlen) (allocBits (firstBit z) (endBit g) b))
@@ -76,18 +76,18 @@ pub data MapRead : Type 0 where
 
 -- zone by zone from z on
 abbrev pub joinZone : ℕ → ZoneRead → MapRead → MapRead
-joinZone z (bad n) r = refused n z
-joinZone z (good es) (refused n i) = refused n i
-joinZone z (good es) (entries ess) = entries (es ∷ ess)
+joinZone z (fault n) r = refused n z
+joinZone z (sound es) (refused n i) = refused n i
+joinZone z (sound es) (entries ess) = entries (es ∷ ess)
 
 abbrev pub zonesRead : Geometry → ℕ → List (List ℕ) → MapRead
 zonesRead g z [] = entries []
 zonesRead g z (b ∷ bs) = joinZone z (zoneRead g z b) (zonesRead g (suc z) bs)
 
 -- the first zone from z on whose check differs
-abbrev pub badCheck : ℕ → List (List ℕ) → Option ℕ
-badCheck z [] = none
-badCheck z (b ∷ bs) = cond (eqb (getD b 0 0) (zoneCheck b)) (badCheck (suc z) bs) (some z)
+abbrev pub differing : ℕ → List (List ℕ) → Option ℕ
+differing z [] = none
+differing z (b ∷ bs) = cond (eqb (getD b 0 0) (zoneCheck b)) (differing (suc z) bs) (some z)
 
 -- the exclusive-or of all cross checks
 abbrev pub crossSum : List (List ℕ) → ℕ
@@ -98,7 +98,7 @@ afterChecks none r = r
 afterChecks (some z) r = refused 3 z
 
 abbrev pub blocksRead : Geometry → List (List ℕ) → MapRead
-blocksRead g bs = afterChecks (badCheck 0 bs) (cond (eqb (crossSum bs) 255) (zonesRead g 0 bs) (refused 4 0))
+blocksRead g bs = afterChecks (differing 0 bs) (cond (eqb (crossSum bs) 255) (zonesRead g 0 bs) (refused 4 0))
 
 -- the blocks of a map with geometry g
 abbrev pub blocksOf : Geometry → List ℕ → List (List ℕ)

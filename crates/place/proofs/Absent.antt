@@ -10,13 +10,13 @@ use Rattle.geometry.specs.declared.Geometry.{Geometry}
 use Rattle.geometry.specs.Places.{startZone}
 use Rattle.model.specs.Pieces.{Piece, keep, piecesOf, late, rotate, objectPairs, piecesOfZones}
 use Rattle.map.specs.Accepted.{AcceptedMap}
-use Rattle.listing.specs.Held.{heldFrom}
+use Rattle.listing.specs.HeldBy.{heldFrom}
 use Rattle.listing.proofs.HeldZones.{held-all}
 use Rattle.listing.proofs.ObjectOrder.{in-object-order}
 use Rattle.calls.specs.Judge.{isEmpty}
 use Rattle.calls.proofs.Kept.{length-parts}
 use Rattle.holes.proofs.ZonesTouching.{zones-are}
-use Rattle.place.specs.Asked.{piecesOn}
+use Rattle.runs.specs.Editable.{piecesOn}
 
 no-piece : (l : List Piece) → length l ≡ 0 → isEmpty l ≡ true
 no-piece [] h = refl
@@ -27,7 +27,7 @@ some-piece [] h = absurd (h refl)
 some-piece (x ∷ xs) h = refl
 
 module _ {m : List ℕ} {g : Geometry} (a : AcceptedMap m g) (id : ℕ) (some : 1 ≤ id) (inside : startZone g id ≤ g .zones) {n : ℕ} (count : n ≡ length (heldFrom g id m 0 (g .zones))) where
-  pieces-counted : n ≡ length (piecesOf id (piecesOn m g))
+  pieces-counted : n ≡ length (piecesOf id (piecesOn g m))
   pieces-counted =
       let s = startZone g id in
       let t = late g id in
@@ -38,11 +38,11 @@ module _ {m : List ℕ} {g : Geometry} (a : AcceptedMap m g) (id : ℕ) (some : 
       let order : length (objectPairs g id (piecesOfZones g 0 (a .zones))) ≡ length lates + length early = ap length (in-object-order a id some inside) ∙ length-append lates early in
       let turned : length (objectPairs g id (piecesOfZones g 0 (a .zones))) ≡ length ps =
       length-map (rotate t ps) (λ p. p .at) ∙ length-append (keep t ps) (keep (λ x. not (t x)) ps) ∙ length-parts t ps in
-      let e : length ps ≡ length (piecesOf id (piecesOn m g)) = ap (λ x. length (piecesOf id (piecesOfZones g 0 x))) (sym (zones-are a)) in
+      let e : length ps ≡ length (piecesOf id (piecesOn g m)) = ap (λ x. length (piecesOf id (piecesOfZones g 0 x))) (sym (zones-are a)) in
       omega (arith, held, order, turned, e)
 
-  pub absent : n ≡ 0 → isEmpty (piecesOf id (piecesOn m g)) ≡ true
-  absent h = no-piece (piecesOf id (piecesOn m g)) (omega (arith, pieces-counted))
+  pub absent : n ≡ 0 → isEmpty (piecesOf id (piecesOn g m)) ≡ true
+  absent h = no-piece (piecesOf id (piecesOn g m)) (omega (arith, pieces-counted))
 
-  pub present : (n ≡ 0 → ⊥) → isEmpty (piecesOf id (piecesOn m g)) ≡ false
-  present h = some-piece (piecesOf id (piecesOn m g)) (λ e. h (omega (arith, pieces-counted)))
+  pub present : (n ≡ 0 → ⊥) → isEmpty (piecesOf id (piecesOn g m)) ≡ false
+  present h = some-piece (piecesOf id (piecesOn g m)) (λ e. h (omega (arith, pieces-counted)))

@@ -1,6 +1,6 @@
 -- The answers of a place, case by case: the check's refusal, 8, 9, 11, 12, 13, each with the map as it was, and done with the map
 -- after the step.
-use mathlib.Core.Path.{_≡_, refl, sym, ap, _∙_, subst, subst⁻¹}
+use mathlib.Core.Path.{_≡_, sym, ap, _∙_, subst, subst⁻¹}
 use mathlib.Core.Bool.{Bool, true, false, _&&_}
 use mathlib.Core.List.{List}
 use mathlib.Core.Option.{none, some}
@@ -16,8 +16,8 @@ use Rattle.geometry.specs.declared.Refusal.{Refusal}
 use Rattle.geometry.specs.declared.Start.the-variants as start
 use Rattle.geometry.specs.Record.{geometryOf}
 use Rattle.geometry.specs.Places.{startZone, idFrom}
-use Rattle.geometry.specs.Answers.{refusal, byName, startOf}
-use Rattle.geometry.proofs.Starts.{start-in-range}
+use Rattle.geometry.specs.Answers.{refusal, startOf}
+use Rattle.geometry.proofs.Starts.{start-in-range, named, not-named}
 use Rattle.model.specs.Verdict.{mapRead}
 use Rattle.model.specs.Verdict as read
 use Rattle.model.specs.Pieces.{piecesOfZones}
@@ -25,21 +25,21 @@ use Rattle.map.specs.Checked.{answer, checked}
 use Rattle.map.proofs.Answers.{read-refused}
 use Rattle.map.specs.Accepted.{AcceptedMap}
 use Rattle.map.specs.declared.Checked.the-variants as check
-use Rattle.listing.specs.Held.{heldFrom}
+use Rattle.listing.specs.HeldBy.{heldFrom}
 use Rattle.calls.specs.Edits.{gives, give}
 use Rattle.calls.specs.Holes.{allApart}
 use Rattle.calls.specs.Judge.{editable, listFits, pairsFit, judge, pairsFrom}
 use Rattle.calls.specs.Judge as judged
 use Rattle.runs.specs.Steps.{touching, discOf, refused, byRead, outcome, bytesAfter, step}
 use Rattle.runs.proofs.RunsOnBytes.{step-refused, step-accepted}
-use Rattle.runs.specs.Editable.{zonesOf}
+use Rattle.runs.specs.Editable.{zonesOf, piecesOn}
 use Rattle.holes.specs.Touching.{touchingOf}
 use Rattle.holes.specs.declared.Touching.the-variants as told
 use Rattle.holes.proofs.ZonesTouching.{zones-are, none-told, zone-told}
 use Rattle.place.specs.declared.Placed.the-variants as placed
 use Rattle.place.specs.Placed.{answerOf, Places}
 use Rattle.place.specs.Parts.{fitsFrom}
-use Rattle.place.specs.Asked.{EditableMap, piecesOn, PlaceAsks}
+use Rattle.place.specs.Asked.{EditableMap, PlaceAsks}
 use Rattle.place.proofs.ListJudged.{fitsAll, list-fits-is}
 use Rattle.place.proofs.ApartZones.{zones-apart}
 use Rattle.place.proofs.Absent.{absent, present}
@@ -50,15 +50,6 @@ refusal-places m id list n z e = record { answer = sym (ap answerOf e); bytes = 
 pub check-refuses : (m : List ℕ) (id : ℕ) (list : List ℕ) (r : Refusal) → checked m ≡ check.Refused r → Places m id list (placed.Refused r) m
 check-refuses m id list r e =
     refusal-places m id list (r .number) (r .zone) (ap (byRead m (judged.place id list)) (read-refused (geometryOf m) (mapRead m) r e))
-
--- the start zone's answer
-no-name : (b : Bool) (z : ℕ) (r : Refusal) → byName b z ≡ start.Refused r → (b ≡ false) × (r ≡ refusal 8 0)
-no-name true z r e = let x : _≡_ {A = ℕ} 0 1 = cc in absurd (omega arith)
-no-name false z r e = (refl, cc)
-
-named : (b : Bool) (z s : ℕ) → byName b z ≡ start.Zone s → (b ≡ true) × (s ≡ z)
-named true z s e = (refl, cc)
-named false z s e = let x : _≡_ {A = ℕ} 0 1 = cc in absurd (omega arith)
 
 module _ {m : List ℕ} {g : Geometry} (a : AcceptedMap m g) (id : ℕ) (list : List ℕ) where
   -- 8: "id argument outside .. 3 .. to P*nzones-1"
@@ -73,7 +64,7 @@ module _ {m : List ℕ} {g : Geometry} (a : AcceptedMap m g) (id : ℕ) (list : 
   module _ (l : 3 ≤ id) where
     pub start-refuses : (r : Refusal) → startOf g id ≡ start.Refused r → Places m id list (placed.Refused r) m
     start-refuses r e =
-        let k = no-name (idFrom 1 g id) (startZone g id) r e in
+        let k = not-named (idFrom 1 g id) (startZone g id) r e in
         let n : ltb id (g .ids * g .zones) ≡ false = rw (le-leb 1 id (omega arith)) at (k .0) in
         subst⁻¹ (λ (x : Refusal). Places m id list (placed.Refused x) m) (k .1) (eight (rw (le-leb 3 id l, n)))
 
@@ -102,7 +93,7 @@ module _ {m : List ℕ} {g : Geometry} (a : AcceptedMap m g) (id : ℕ) (list : 
         map-editable : EditableMap m g
         map-editable = record { accepted = a; apart = none-told (touching 0 (zonesOf m)) t; bytes = b }
 
-        refuses : (n : ℕ) → judge g (piecesOn m g) (judged.place id list) ≡ judged.refused n → Places m id list (placed.Refused (refusal n 0)) m
+        refuses : (n : ℕ) → judge g (piecesOn g m) (judged.place id list) ≡ judged.refused n → Places m id list (placed.Refused (refusal n 0)) m
         refuses n v =
             let k : judge (geometryOf m) ((discOf m (a .zones)) .pieces) (judged.place id list) ≡ judged.refused n =
             sym (λ i. judge (a .geometry i) (piecesOfZones (a .geometry i) 0 (zones-are a i)) (judged.place id list)) ∙ v in
@@ -141,17 +132,17 @@ module _ {m : List ℕ} {g : Geometry} {id s : ℕ} {list : List ℕ} (q : Place
       let k = both (leb 3 id) (ltb id (g .ids * g .zones)) (q .named) in
       omega (arith, q .start-is, start-in-range g id (omega (arith, leb-true 3 id (k .0))) (ltb-true id (g .ids * g .zones) (k .1)), a .numbers .zones-high)
 
-  verdict-at : (g2 : Geometry) → g ≡ g2 → judge g (piecesOn m g) (judged.place id list) ≡ judge g2 (piecesOfZones g2 0 ((q .editable .accepted) .zones)) (judged.place id list)
+  verdict-at : (g2 : Geometry) → g ≡ g2 → judge g (piecesOn g m) (judged.place id list) ≡ judge g2 (piecesOfZones g2 0 ((q .editable .accepted) .zones)) (judged.place id list)
   verdict-at g2 e = λ i. judge (e i) (piecesOfZones (e i) 0 (zones-are a i)) (judged.place id list)
 
-  module _ {fits : Bool} (ef : fits ≡ allApart g 0 (g .zones) (give id (pairsFrom list) (piecesOn m g))) where
+  module _ {fits : Bool} (ef : fits ≡ allApart g 0 (g .zones) (give id (pairsFrom list) (piecesOn g m))) where
     pub no-room : fits ≡ false → Places m id list (placed.Refused (refusal 13 0)) m
     no-room t =
-        let v : judge g (piecesOn m g) (judged.place id list) ≡ judged.refused 13 = rw (q .named, q .absent, q .fits, sym ef ∙ t) in
+        let v : judge g (piecesOn g m) (judged.place id list) ≡ judged.refused 13 = rw (q .named, q .absent, q .fits, sym ef ∙ t) in
         refusal-places m id list 13 0
         (step-refused m (a .zones) (q .editable .bytes) (a .read) (zones-apart (q .editable)) (judged.place id list) 13 (sym (verdict-at (geometryOf m) (a .geometry)) ∙ v) .0)
 
-    pub room : fits ≡ true → judge g (piecesOn m g) (judged.place id list) ≡ judged.accepted (gives id (pairsFrom list))
+    pub room : fits ≡ true → judge g (piecesOn g m) (judged.place id list) ≡ judged.accepted (gives id (pairsFrom list))
     room t = rw (q .named, q .absent, q .fits, sym ef ∙ t)
 
     pub done-places : fits ≡ true → (after : List ℕ) → after ≡ step m (judged.place id list) → Places m id list placed.Done after

@@ -2,10 +2,9 @@
 -- and lie apart.
 use mathlib.Core.Path.{_≡_, sym, ap, _∙_, subst, subst⁻¹}
 use mathlib.Core.Bool.{true}
-use mathlib.Core.List.{List, [], _∷_, map}
+use mathlib.Core.List.{List, [], map}
 use mathlib.Core.Option.{none}
-use Prim.Native.Nat.{ℕ, zero, suc, _+_, _<_}
-use native.Mathlib.Nat.{zero-add}
+use Prim.Native.Nat.{ℕ, _<_}
 use native.Mathlib.Omega.{arith}
 use lib.ListN.{getD}
 use Rattle.bits.specs.Bits.{Bytes}
@@ -17,9 +16,7 @@ use Rattle.model.specs.Rules.{zoneBlock}
 use Rattle.model.specs.Verdict.{entries, mapRead}
 use Rattle.model.specs.Pieces.{Piece, ownedOf, pieceToDisc, piecesOfZones}
 use Rattle.zone.specs.Lines.{entriesIn}
-use Rattle.zone.proofs.ReadParts.{is-read}
-use Rattle.map.specs.Accepted.{AcceptedMap}
-use Rattle.listing.proofs.HeldZones.{ReadInTurn, zones-in-turn}
+use Rattle.listing.proofs.HeldZones.{zone-entries}
 use Rattle.calls.specs.Order.{Ascending}
 use Rattle.calls.specs.Edits.{inZone}
 use Rattle.calls.specs.Holes.{apart}
@@ -31,30 +28,16 @@ use Rattle.calls.proofs.Invariant.{FitPieces, some-bits}
 use Rattle.runs.specs.Steps.{touching, discOf}
 use Rattle.runs.proofs.MapAccepted.{map-geometry, map-disc}
 use Rattle.runs.proofs.ZonesAfter.{zone-pieces-at}
-use Rattle.runs.specs.Editable.{zonesOf}
+use Rattle.runs.specs.Editable.{zonesOf, piecesOn}
 use Rattle.holes.proofs.ZonesTouching.{zones-are}
 use Rattle.place.specs.Merged.{ownedInZone}
-use Rattle.place.specs.Asked.{EditableMap, piecesOn}
+use Rattle.place.specs.Asked.{EditableMap}
 
 pub record ApartZones (m : List ℕ) (g : Geometry) : Type 0 where
-  pub weak : Weak 0 (piecesOn m g)
-  pub pieces-at : (z : ℕ) → z < g .zones → inZone g z (piecesOn m g) ≡ ownedInZone g z (zoneBlock g m z)
+  pub weak : Weak 0 (piecesOn g m)
+  pub pieces-at : (z : ℕ) → z < g .zones → inZone g z (piecesOn g m) ≡ ownedInZone g z (zoneBlock g m z)
   pub apart-at : (z : ℕ) → z < g .zones → apart (g .shortest) (zoneFrom g z) (zoneEnd g z) (ownedInZone g z (zoneBlock g m z)) ≡ true
   pub ascend-at : (z : ℕ) → z < g .zones → Ascending 0 (ownedInZone g z (zoneBlock g m z))
-
--- the entries of zone z
-entries-of : (m : List ℕ) (g : Geometry) (z : ℕ) (ess : List (List Entry)) → ReadInTurn m g z ess → (i : ℕ) → z + i < g .zones → getD ess i [] ≡ entriesIn g (z + i) (zoneBlock g m (z + i))
-entries-of m g z [] r i h = absurd (omega arith)
-entries-of m g z (es ∷ ess) r zero h =
-    let e : z ≡ z + 0 = omega arith in
-    sym (is-read g z (zoneBlock g m z) es (r .1) .0) ∙ ap (λ (y : ℕ). entriesIn g y (zoneBlock g m y)) e
-entries-of m g z (es ∷ ess) r (suc i) h =
-    let e : suc z + i ≡ z + suc i = omega arith in
-    entries-of m g (suc z) ess (r .2) i (omega arith) ∙ ap (λ (y : ℕ). entriesIn g y (zoneBlock g m y)) e
-
-pub entries-at : {m : List ℕ} {g : Geometry} (a : AcceptedMap m g) (z : ℕ) → z < g .zones → getD (a .zones) z [] ≡ entriesIn g z (zoneBlock g m z)
-entries-at {m} {g} a z h =
-    subst (λ (y : ℕ). getD (a .zones) z [] ≡ entriesIn g y (zoneBlock g m y)) (zero-add z) (entries-of m g 0 (a .zones) (zones-in-turn a) z (omega arith))
 
 pub zones-apart : {m : List ℕ} {g : Geometry} (e : EditableMap m g) → touching 0 (e .accepted .zones) ≡ none
 zones-apart e = ap (touching 0) (sym (zones-are (e .accepted))) ∙ e .apart
@@ -64,7 +47,7 @@ module _ (m : List ℕ) (ess : List (List Entry)) (bytes : Bytes m) (accepted : 
   abbrev g : Geometry
   g = geometryOf m
 
-  pieces-are : piecesOn m (geometryOf m) ≡ (discOf m ess) .pieces
+  pieces-are : piecesOn (geometryOf m) m ≡ (discOf m ess) .pieces
   pieces-are = ap (piecesOfZones g 0) same
 
   fit : FitPieces (geometryOf m) ((discOf m ess) .pieces)
@@ -92,4 +75,4 @@ apart-zones {m} {g} e =
     let a = e .accepted in
     subst⁻¹ (ApartZones m) (a .geometry)
     (zones-of-map m (a .zones) (e .bytes) (a .read) (zones-apart e) (zones-are a)
-    (subst (λ (k : Geometry). (z : ℕ) → z < k .zones → getD (a .zones) z [] ≡ entriesIn k z (zoneBlock k m z)) (a .geometry) (entries-at a)))
+    (subst (λ (k : Geometry). (z : ℕ) → z < k .zones → getD (a .zones) z [] ≡ entriesIn k z (zoneBlock k m z)) (a .geometry) (λ z h. sym (zone-entries a z h))))

@@ -10,13 +10,13 @@ use lib.ListN.{length, getD, drop}
 use borrow.Author.Tests.{eq-eqb, ne-eqb, lt-ltb, le-ltb, le-leb, lt-leb}
 use Rattle.geometry.specs.declared.Geometry.{Geometry}
 use Rattle.geometry.specs.Places.{startZone, discBits}
-use Rattle.model.specs.Chain.{Pair}
+use Rattle.model.specs.Chain.{Pair, pair}
 use Rattle.model.specs.Pieces.{late}
 use Rattle.calls.specs.Order.{rank}
 use Rattle.calls.specs.Edits.{own}
 use Rattle.calls.specs.Judge.{pairsFrom, pairFits, pairsFit, listFits}
 use Rattle.writer.proofs.ListedPairs.{no-pairs, next-pairs}
-use Rattle.place.specs.Parts.{pair, orderPlace, fitsFrom}
+use Rattle.place.specs.Parts.{orderPlace, fitsFrom}
 
 -- the whole test
 abbrev pub fitsAll : Geometry → ℕ → List ℕ → Bool

@@ -16,10 +16,10 @@ use Rattle.calls.specs.Holes.{gapFits, apart}
 use Rattle.calls.proofs.ByPlace.{Weak, asc-weak, weak-weaken}
 use Rattle.calls.proofs.PutIn.{asc-weaken}
 use Rattle.writer.proofs.Starts.{put-behind}
-use Rattle.place.specs.Parts.{pair}
 use Rattle.place.specs.Merged.{linesLeft, listLeft, piecesApart, Merging, Turned}
 use Rattle.place.specs.declared.Turn.{Turn}
 use Rattle.place.proofs.LinesLeft.{no-lines, free-line, owned-line, no-entries, next-entry, listed-first}
+use Rattle.model.specs.Chain.{pair}
 
 abbrev turned : Bool → ℕ → ℕ → ℕ → Turn
 turned fits at line entry = record { fits = fits; at = at; line = line; entry = entry }

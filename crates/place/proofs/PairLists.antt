@@ -9,14 +9,11 @@ use lib.Dec.{ltb, leb}
 use lib.ListN.{length, getD, take, drop, length-append, length-drop}
 use lib.Seq.{take-at, drop-at, drop-drop}
 use Rattle.model.specs.Chain.{Pair, numbersOf}
+use Rattle.model.proofs.Lists.{length-numbers, numbers-append}
 use Rattle.calls.specs.Judge.{pairsFrom}
-use Rattle.calls.proofs.Returned.{pairs-numbers, length-numbers}
+use Rattle.calls.proofs.Returned.{pairs-numbers}
 use Rattle.writer.proofs.ListedPairs.{no-pairs, next-pairs}
 use Rattle.place.specs.Parts.{leading}
-
-pub numbers-append : (ps qs : List Pair) → numbersOf (ps ++ qs) ≡ numbersOf ps ++ numbersOf qs
-numbers-append [] qs = refl
-numbers-append (p ∷ ps) qs = ap (λ (r : List ℕ). p .start ∷ p .len ∷ r) (numbers-append ps qs)
 
 pub numbers-pairs : (l : List ℕ) → length l % 2 ≡ 0 → numbersOf (pairsFrom l) ≡ l
 numbers-pairs [] h = refl

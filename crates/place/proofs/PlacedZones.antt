@@ -25,10 +25,11 @@ use Rattle.runs.specs.Steps.{touching, discOf, step}
 use Rattle.runs.proofs.ZonesTouched.{changeAt}
 use Rattle.runs.proofs.ZonesAfter.{zone-given, zone-untouched, given-drawable}
 use Rattle.runs.proofs.RunsOnBytes.{length-kept}
-use Rattle.runs.specs.Editable.{zonesOf}
+use Rattle.runs.specs.Editable.{zonesOf, piecesOn}
 use Rattle.holes.proofs.ZonesTouching.{zones-are}
-use Rattle.place.specs.Asked.{EditableMap, piecesOn}
-use Rattle.place.proofs.ApartZones.{entries-at, zones-apart}
+use Rattle.place.specs.Asked.{EditableMap}
+use Rattle.place.proofs.ApartZones.{zones-apart}
+use Rattle.listing.proofs.HeldZones.{zone-entries}
 
 -- the pieces of zone z after it, in block bits
 abbrev pub zonePieces : List ℕ → Geometry → ℕ → List ℕ → ℕ → List Piece
@@ -44,7 +45,7 @@ pub record PlacedZones (m : List ℕ) (g : Geometry) (id : ℕ) (list : List ℕ
 
 module _ (m : List ℕ) (ess : List (List Entry)) (bytes : Bytes m) (read : mapRead m ≡ entries ess) (apart : touching 0 ess ≡ none) (same : zonesOf m ≡ ess)
     (at : (z : ℕ) → z < (geometryOf m) .zones → getD ess z [] ≡ entriesIn (geometryOf m) z (zoneBlock (geometryOf m) m z))
-    (id : ℕ) (list : List ℕ) (v : judge (geometryOf m) (piecesOn m (geometryOf m)) (place id list) ≡ accepted (gives id (pairsFrom list))) where
+    (id : ℕ) (list : List ℕ) (v : judge (geometryOf m) (piecesOn (geometryOf m) m) (place id list) ≡ accepted (gives id (pairsFrom list))) where
   abbrev g : Geometry
   g = geometryOf m
 
@@ -64,10 +65,10 @@ module _ (m : List ℕ) (ess : List (List Entry)) (bytes : Bytes m) (read : mapR
         drawable = λ z h. subst (λ (es : List Entry). Drawable (g .idlen) (firstBit z) (endBit g) (new z es)) (at z h) (given-drawable m ess bytes read apart id qs z h (place id list) verdict);
       }
 
-pub placed-zones : {m : List ℕ} {g : Geometry} → EditableMap m g → (id : ℕ) (list : List ℕ) → judge g (piecesOn m g) (place id list) ≡ accepted (gives id (pairsFrom list)) → PlacedZones m g id list
+pub placed-zones : {m : List ℕ} {g : Geometry} → EditableMap m g → (id : ℕ) (list : List ℕ) → judge g (piecesOn g m) (place id list) ≡ accepted (gives id (pairsFrom list)) → PlacedZones m g id list
 placed-zones {m} {g} e id list v =
     let a = e .accepted in
     subst⁻¹ (λ (k : Geometry). PlacedZones m k id list) (a .geometry)
     (zones-of-map m (a .zones) (e .bytes) (a .read) (zones-apart e) (zones-are a)
-    (subst (λ (k : Geometry). (z : ℕ) → z < k .zones → getD (a .zones) z [] ≡ entriesIn k z (zoneBlock k m z)) (a .geometry) (entries-at a))
-    id list (subst (λ (k : Geometry). judge k (piecesOn m k) (place id list) ≡ accepted (gives id (pairsFrom list))) (a .geometry) v))
+    (subst (λ (k : Geometry). (z : ℕ) → z < k .zones → getD (a .zones) z [] ≡ entriesIn k z (zoneBlock k m z)) (a .geometry) (λ z h. sym (zone-entries a z h)))
+    id list (subst (λ (k : Geometry). judge k (piecesOn k m) (place id list) ≡ accepted (gives id (pairsFrom list))) (a .geometry) v))

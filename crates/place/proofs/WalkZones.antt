@@ -13,8 +13,8 @@ use Rattle.geometry.specs.declared.Geometry.{Geometry}
 use Rattle.geometry.specs.Accepted.{AcceptedGeometry}
 use Rattle.geometry.specs.Places.{zoneOf, zoneFrom, zoneEnd, discBits}
 use Rattle.model.specs.Chain.{Pair, numbersOf}
+use Rattle.model.proofs.Lists.{length-numbers}
 use Rattle.calls.specs.Judge.{pairsFrom}
-use Rattle.calls.proofs.Returned.{length-numbers}
 use Rattle.place.specs.Parts.{fitsFrom, leading, Rising, zonePairs, IsPart, PartsLeft, Walking}
 use Rattle.place.proofs.SmallTests.{next-zone}
 use Rattle.place.proofs.PairLists.{numbers-pairs, entries-after, entries-in}

@@ -22,7 +22,7 @@ use Rattle.model.specs.Verdict.{every, holderFits, idFits}
 use Rattle.model.specs.Drawing.{Drawable}
 use Rattle.model.proofs.ByPlace.{zone-end}
 use Rattle.zone.specs.Lines.{entriesIn}
-use Rattle.listing.specs.Held.{ReadZone}
+use Rattle.listing.specs.HeldBy.{ReadZone}
 use Rattle.listing.proofs.HeldZones.{zone-reads}
 use Rattle.listing.proofs.FreeHeld.{ids-fit}
 use Rattle.calls.specs.Order.{Ascending}

@@ -1,32 +1,34 @@
 -- Refusal 13 over all zones, one zone at a time: what a zone's part of the list gives is what the whole list gives there, and a
 -- zone without pairs is apart as it was. The zones that have pairs are counted.
 use mathlib.Core.Path.{_≡_, refl, sym, ap, ap₂, _∙_, subst}
-use mathlib.Core.Bool.{Bool, true, false, cond, _&&_}
+use mathlib.Core.Bool.{Bool, true, cond, _&&_}
 use mathlib.Core.List.{List, [], _∷_, map}
-use Prim.Native.Nat.{ℕ, zero, suc, _+_, _-_, _*_, _%_, _<_, _≤_}
+use Prim.Native.Nat.{ℕ, suc, _+_, _-_, _*_, _%_, _<_, _≤_}
 use native.Mathlib.Nat.{zero-add}
 use native.Mathlib.Omega.{arith}
 use lib.Dec.{eqb, ltb}
 use lib.ListN.{length, take, drop, length-drop}
 use lib.Seq.{length-take-le}
 use borrow.Author.Tests.{lt-ltb, le-ltb, ltb-true, ltb-false}
-use Rattle.bits.proofs.Tests.{by-test}
+use Rattle.bits.proofs.Tests.{by-test, and-assoc, and-with-true}
 use Rattle.checks.specs.Cross.{touchedCount}
 use Rattle.geometry.specs.declared.Geometry.{Geometry}
 use Rattle.geometry.specs.Places.{zoneOf, zoneFrom, zoneEnd}
 use Rattle.model.specs.Chain.{Pair}
 use Rattle.model.specs.Rules.{zoneBlock}
 use Rattle.model.specs.Pieces.{Piece}
+use Rattle.model.proofs.Lists.{length-numbers}
 use Rattle.calls.specs.Edits.{put, own, give, touches, touchedFrom, inZone}
 use Rattle.calls.specs.Holes.{apart, allApart}
 use Rattle.calls.specs.Judge.{pairsFrom}
-use Rattle.calls.proofs.Returned.{pairs-numbers, length-numbers}
-use Rattle.runs.proofs.ZonesTouched.{zone-give}
+use Rattle.calls.proofs.Returned.{pairs-numbers}
+use Rattle.runs.proofs.ZonesTouched.{zone-give, count-next}
 use Rattle.listing.proofs.HeldZones.{zone-reads}
 use Rattle.place.specs.Parts.{Rising, zonePairs, IsPart}
 use Rattle.place.specs.Merged.{ownedInZone, zoneFits}
-use Rattle.place.specs.Asked.{EditableMap, piecesOn, ZoneAsks}
+use Rattle.place.specs.Asked.{EditableMap, ZoneAsks}
 use Rattle.place.proofs.ApartZones.{apart-zones}
+use Rattle.runs.specs.Editable.{piecesOn}
 
 -- a zone's listed pieces
 pub zone-listed : (g : Geometry) (z id : ℕ) (qs : List Pair) → inZone g z (map (own id) qs) ≡ map (own id) (zonePairs g z qs)
@@ -83,12 +85,12 @@ module _ {m : List ℕ} {g : Geometry} (e : EditableMap m g) {list : List ℕ} {
   pub zone-asks : ZoneAsks g z (zoneBlock g m z) (take (to - from) (drop from list))
   zone-asks = record { read = zone-reads (e .accepted) z h; even = part-even p; rising = part-rising p; ascend = apart-zones e .ascend-at z h }
 
-  pub zone-verdict : (id : ℕ) → apart (g .shortest) (zoneFrom g z) (zoneEnd g z) (inZone g z (give id (pairsFrom list) (piecesOn m g))) ≡ zoneFits g z id (zoneBlock g m z) (take (to - from) (drop from list))
+  pub zone-verdict : (id : ℕ) → apart (g .shortest) (zoneFrom g z) (zoneEnd g z) (inZone g z (give id (pairsFrom list) (piecesOn g m))) ≡ zoneFits g z id (zoneBlock g m z) (take (to - from) (drop from list))
   zone-verdict id =
       let f = apart-zones e in
       let old = ownedInZone g z (zoneBlock g m z) in
-      let new : inZone g z (give id (pairsFrom list) (piecesOn m g)) ≡ put (map (own id) (pairsFrom (part p))) old =
-      zone-give g z id (pairsFrom list) (piecesOn m g) (f .weak)
+      let new : inZone g z (give id (pairsFrom list) (piecesOn g m)) ≡ put (map (own id) (pairsFrom (part p))) old =
+      zone-give g z id (pairsFrom list) (piecesOn g m) (f .weak)
       ∙ ap₂ put (zone-listed g z id (pairsFrom list) ∙ ap (map (own id)) (sym (part-pairs p))) (f .pieces-at z h) in
       ap (apart (g .shortest) (zoneFrom g z) (zoneEnd g z)) new
       ∙ by-test (ltb 0 (length (part p)))
@@ -104,35 +106,15 @@ judged-turn g l z fits zone both all h e v b =
     let s : suc z ≡ z + 1 = omega arith in
     let q : allApart g z (g .zones - z) l ≡ zone && allApart g (z + 1) (g .zones - (z + 1)) l =
     ap (λ (k : ℕ). allApart g z k l) n ∙ ap₂ (λ (x : Bool) (y : ℕ). x && allApart g y (g .zones - (z + 1)) l) v s in
-    ap (λ (x : Bool). x && allApart g (z + 1) (g .zones - (z + 1)) l) b ∙ assoc fits zone (allApart g (z + 1) (g .zones - (z + 1)) l) ∙ sym (ap (λ (x : Bool). fits && x) q) ∙ e
-  where
-    assoc : (a b c : Bool) → (a && b) && c ≡ a && (b && c)
-    assoc true b c = refl
-    assoc false b c = refl
+    ap (λ (x : Bool). x && allApart g (z + 1) (g .zones - (z + 1)) l) b ∙ and-assoc fits zone (allApart g (z + 1) (g .zones - (z + 1)) l) ∙ sym (ap (λ (x : Bool). fits && x) q) ∙ e
 
 pub judged-ends : (g : Geometry) (l : List Piece) (z : ℕ) (fits all : Bool) → g .zones ≤ z → fits && allApart g z (g .zones - z) l ≡ all → fits ≡ all
 judged-ends g l z fits all h e =
     let n : g .zones - z ≡ 0 = omega arith in
     let q : fits && true ≡ all = ap (λ (k : ℕ). fits && allApart g z k l) (sym n) ∙ e in
-    sym (unit fits) ∙ q
-  where
-    unit : (a : Bool) → a && true ≡ a
-    unit true = refl
-    unit false = refl
+    sym (and-with-true fits) ∙ q
 
 -- and counted
-count-next : (g : Geometry) (qs : List Pair) (y n : ℕ) → touchedCount (touchedFrom g qs y (suc n)) ≡ touchedCount (touchedFrom g qs y n) + cond (touches g (y + n) qs) 1 0
-count-next g qs y zero =
-    let e : y + 0 ≡ y = omega arith in
-    by-test (touches g y qs) (λ t. rw (e, t) refl) (λ t. rw (e, t) refl)
-count-next g qs y (suc n) =
-    let e : suc y + n ≡ y + suc n = omega arith in
-    let r : touchedCount (touchedFrom g qs (suc y) (suc n)) ≡ touchedCount (touchedFrom g qs (suc y) n) + cond (touches g (y + suc n) qs) 1 0 =
-    count-next g qs (suc y) n ∙ ap (λ (x : ℕ). touchedCount (touchedFrom g qs (suc y) n) + cond (touches g x qs) 1 0) e in
-    by-test (touches g y qs)
-    (λ t. simp t (omega (arith, r)))
-    (λ t. simp t r)
-
 pub count-turn : (g : Geometry) (qs : List Pair) (z k n : ℕ) (b : Bool) → k ≡ touchedCount (touchedFrom g qs 0 z) → b ≡ touches g z qs → n ≡ cond b 1 0 → k + n ≡ touchedCount (touchedFrom g qs 0 (z + 1))
 count-turn g qs z k n b ek eb en =
     let s : suc z ≡ z + 1 = omega arith in

@@ -11,15 +11,15 @@ use Rattle.bits.specs.Bits.{Bytes}
 use Rattle.checks.specs.Cross.{crossOf, touchedCount}
 use Rattle.geometry.specs.declared.Geometry.{Geometry}
 use Rattle.geometry.specs.Places.{firstBit, endBit, zoneFrom, startZone, idFrom}
-use Rattle.model.specs.Pieces.{Piece, piecesOf, piecesOfZones}
+use Rattle.model.specs.Pieces.{piecesOf}
 use Rattle.calls.specs.Order.{Ascending}
 use Rattle.calls.specs.Edits.{gives, touchedZones}
 use Rattle.calls.specs.Judge.{place, accepted, isEmpty, listFits, judge, pairsFrom}
 use Rattle.runs.specs.Written.{written}
 use Rattle.runs.specs.Steps.{touching}
 use Rattle.map.specs.Accepted.{AcceptedMap}
-use Rattle.listing.specs.Held.{ReadZone}
-use Rattle.runs.specs.Editable.{zonesOf}
+use Rattle.listing.specs.HeldBy.{ReadZone}
+use Rattle.runs.specs.Editable.{zonesOf, piecesOn}
 use Rattle.writer.specs.ZoneEdit.{editedPieces}
 use Rattle.place.specs.Parts.{Rising, Walking}
 use Rattle.place.specs.Merged.{ownedInZone}
@@ -30,15 +30,11 @@ pub record EditableMap (m : List ℕ) (g : Geometry) : Type 0 where
   pub apart : touching 0 (zonesOf m) ≡ none
   pub bytes : Bytes m
 
--- its pieces, ascending by disc bit
-abbrev pub piecesOn : List ℕ → Geometry → List Piece
-piecesOn m g = piecesOfZones g 0 (zonesOf m)
-
 -- 8, 11 and 12 are judged
 pub record PlaceAsks (m : List ℕ) (g : Geometry) (id start : ℕ) (list : List ℕ) : Type 0 where
   pub editable : EditableMap m g
   pub named : idFrom 3 g id ≡ true
-  pub absent : isEmpty (piecesOf id (piecesOn m g)) ≡ true
+  pub absent : isEmpty (piecesOf id (piecesOn g m)) ≡ true
   pub start-is : start ≡ startZone g id
   pub fits : listFits g id list ≡ true
 
@@ -46,7 +42,7 @@ pub record PlaceAsks (m : List ℕ) (g : Geometry) (id start : ℕ) (list : List
 pub record WriteAsks (m : List ℕ) (g : Geometry) (id start late : ℕ) (list : List ℕ) (touched : ℕ) : Type 0 where
   pub editable : EditableMap m g
   pub walks : Walking g list start 0 late
-  pub judged : judge g (piecesOn m g) (place id list) ≡ accepted (gives id (pairsFrom list))
+  pub judged : judge g (piecesOn g m) (place id list) ≡ accepted (gives id (pairsFrom list))
   pub count : touched ≡ touchedCount (touchedZones g (pairsFrom list))
 
 -- a zone that keeps the rules, and pairs of it

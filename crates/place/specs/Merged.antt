@@ -13,8 +13,8 @@ use Rattle.calls.specs.Edits.{put, own}
 use Rattle.calls.specs.Holes.{apart}
 use Rattle.calls.specs.Judge.{pairsFrom}
 use Rattle.zone.specs.Lines.{entriesIn}
-use Rattle.place.specs.Parts.{pair}
 use Rattle.place.specs.declared.Turn.{Turn}
+use Rattle.model.specs.Chain.{pair}
 
 -- the owned ones of lines as `zone::list_zone` writes them: holder, disc bit, length
 abbrev pub ownedLines : List ℕ → List Piece

@@ -7,12 +7,9 @@ use lib.Dec.{eqb, ltb, leb}
 use lib.ListN.{length, take, drop}
 use Rattle.geometry.specs.declared.Geometry.{Geometry}
 use Rattle.geometry.specs.Places.{zoneOf, zoneFrom, discBits}
-use Rattle.model.specs.Chain.{Pair, numbersOf}
+use Rattle.model.specs.Chain.{Pair, numbersOf, pair}
 use Rattle.model.specs.Pieces.{keep}
 use Rattle.calls.specs.Judge.{pairsFrom, pairFits}
-
-abbrev pub pair : ℕ → ℕ → Pair
-pair start len = record { start = start; len = len }
 
 -- a disc bit's place in the object order of a start zone, as `rank` of calls
 abbrev pub orderPlace : Geometry → ℕ → ℕ → ℕ

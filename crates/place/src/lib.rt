@@ -26,9 +26,11 @@ ghost use Rattle.calls.specs.Judge as call;
 ghost use Rattle.runs.specs.Steps.{step};
 ghost use Rattle.writer.specs.ZoneEdit.{ZoneEdit};
 ghost use Rattle.place.specs.Placed.{Places};
-ghost use Rattle.place.specs.Parts.{pair, orderPlace, fitsFrom, leading, IsPart, Walking};
+ghost use Rattle.place.specs.Parts.{orderPlace, fitsFrom, leading, IsPart, Walking};
 ghost use Rattle.place.specs.Merged.{Merging, Turned, piecesApart, zoneFits};
-ghost use Rattle.place.specs.Asked.{EditableMap, piecesOn, PlaceAsks, WriteAsks, ZoneAsks, zoneAfter};
+ghost use Rattle.place.specs.Asked.{EditableMap, PlaceAsks, WriteAsks, ZoneAsks, zoneAfter};
+ghost use Rattle.runs.specs.Editable.{piecesOn};
+ghost use Rattle.model.specs.Chain.{pair};
 
 pub enum Placed {
     Done,
@@ -217,7 +219,7 @@ struct Judged {
 // 13, zone by zone, with nothing written.
 fn judge_zones(map: &[u8], g: Geometry, start: usize, late: usize, list: &[u32]) -> Judged
     requires { ⌜ EditableMap (now map) g × Walking g (now list) start 0 late ⌝ }
-    ensures fits { λ r. ⌜ ((id : ℕ) → r .fits ≡ allApart g 0 (g .zones) (give id (pairsFrom (now (list .entry))) (piecesOn (now (map .entry)) g))) ⌝ }
+    ensures fits { λ r. ⌜ ((id : ℕ) → r .fits ≡ allApart g 0 (g .zones) (give id (pairsFrom (now (list .entry))) (piecesOn g (now (map .entry))))) ⌝ }
     ensures touched { λ r. ⌜ r .touched ≡ touchedCount (touchedZones g (pairsFrom (now (list .entry)))) ⌝ }
 {
     let zones = g.zones;

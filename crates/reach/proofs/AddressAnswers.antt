@@ -1,7 +1,7 @@
 -- The answers of an address, case by case: the check's refusal, 8, 10, 16, and where the byte lies. An object's pieces are those
 -- from its start zone on and then those before it, and all of them have less than 2^42 bytes.
 use mathlib.Core.Path.{_≡_, refl, sym, ap, _∙_}
-use mathlib.Core.Bool.{Bool, true, false}
+use mathlib.Core.Bool.{true, false}
 use mathlib.Core.List.{List, [], _∷_, _++_}
 use Prim.Native.Nat.{ℕ, _+_, _-_, _*_, _/_, _<_, _≤_}
 use native.Mathlib.Nat.{mul-le-mul}
@@ -15,9 +15,9 @@ use Rattle.geometry.specs.declared.Refusal.{Refusal}
 use Rattle.geometry.specs.declared.Start.the-variants as start
 use Rattle.geometry.specs.Record.{geometryOf}
 use Rattle.geometry.specs.Places.{idFrom, startZone, discBits}
-use Rattle.geometry.specs.Answers.{refusal, byName, startOf}
+use Rattle.geometry.specs.Answers.{refusal, startOf}
 use Rattle.geometry.proofs.Bits.{disc-bits-small}
-use Rattle.geometry.proofs.Starts.{start-in-range}
+use Rattle.geometry.proofs.Starts.{start-in-range, named, not-named}
 use Rattle.model.specs.Chain.{Pair}
 use Rattle.model.specs.Verdict.{mapRead}
 use Rattle.model.specs.Verdict as read
@@ -26,7 +26,7 @@ use Rattle.map.specs.Accepted.{AcceptedMap}
 use Rattle.map.specs.Checked.{checked}
 use Rattle.map.proofs.Answers.{read-refused}
 use Rattle.map.specs.declared.Checked.the-variants as check
-use Rattle.listing.specs.Held.{heldFrom}
+use Rattle.listing.specs.HeldBy.{heldFrom}
 use Rattle.listing.proofs.HeldZones.{held-all}
 use Rattle.listing.proofs.ObjectOrder.{in-object-order}
 use Rattle.listing.proofs.Ascend.{map-apart}
@@ -61,15 +61,6 @@ module _ (unit : ℕ) (late early : List Pair) (i : ℕ) where
 pub check-refuses : (m : List ℕ) (n position : ℕ) (r : Refusal) → checked m ≡ check.Refused r → reached.Refused r ≡ addressAnswer (addressFound m n position)
 check-refuses m n position r e = ap (λ q. addressAnswer (addressRead (geometryOf m) n position q)) (sym (read-refused (geometryOf m) (mapRead m) r e))
 
--- start zones
-no-name : (b : Bool) (z : ℕ) (r : Refusal) → byName b z ≡ start.Refused r → (b ≡ false) × (r ≡ refusal 8 0)
-no-name true z r e = let x : _≡_ {A = ℕ} 0 1 = cc in absurd (omega arith)
-no-name false z r e = (refl, cc)
-
-named : (b : Bool) (z s : ℕ) → byName b z ≡ start.Zone s → (b ≡ true) × (s ≡ z)
-named true z s e = (refl, cc)
-named false z s e = let x : _≡_ {A = ℕ} 0 1 = cc in absurd (omega arith)
-
 -- 10 is told where there are no pairs
 absent : (g : Geometry) (qs : List Pair) (i : ℕ) → length qs ≡ 0 → inObject g qs i ≡ refused 10 0
 absent g [] i k = refl
@@ -101,7 +92,7 @@ module _ {m : List ℕ} {g : Geometry} (a : AcceptedMap m g) (n position : ℕ) 
 
       pub start-refused : (r : Refusal) → startOf g (n / 256) ≡ start.Refused r → reached.Refused r ≡ addressAnswer (addressFound m n position)
       start-refused r e =
-          let k = no-name (idFrom 1 g (n / 256)) (startZone g (n / 256)) r e in
+          let k = not-named (idFrom 1 g (n / 256)) (startZone g (n / 256)) r e in
           ap reached.Refused (k .1) ∙ no-number (rw (lt-ltb n 16777216 low) (same-names ∙ k .0))
 
       module _ (s : ℕ) (e : startOf g (n / 256) ≡ start.Zone s) where

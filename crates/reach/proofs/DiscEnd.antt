@@ -15,9 +15,9 @@ use Rattle.geometry.specs.Places.{firstBit, endBit, discBit}
 use Rattle.geometry.proofs.Bits.{from-zero-on}
 use Rattle.model.specs.Chain.{Pair, Holder, free, owned, Entry}
 use Rattle.model.specs.Rules.{zoneBlock}
-use Rattle.model.specs.Verdict.{good, zoneRead, every, isOwned, idFits, endFits, firstOwned}
+use Rattle.model.specs.Verdict.{sound, zoneRead, every, isOwned, idFits, endFits, firstOwned}
 use Rattle.model.specs.Pieces.{Piece, keep, ownedIf, ownedOf, pieceToDisc, piecesOfZones, piecesOf, late, objectPairs}
-use Rattle.zone.proofs.ReadParts.{read-parts}
+use Rattle.model.proofs.ZoneTests.{zone-tests}
 use Rattle.map.specs.Accepted.{AcceptedMap}
 use Rattle.listing.proofs.HeldZones.{ReadInTurn, zones-in-turn}
 use Rattle.listing.proofs.Filled.{Fills, entries-fill}
@@ -64,9 +64,9 @@ seek-below unit end (p ∷ ps) h i a e =
     (λ t. seek-below unit end ps (h .1) (i - l) a (rw t at e))
 
 -- a zone's pieces, in disc bits
-ends-fit : (g : Geometry) (z : ℕ) (b : List ℕ) (es : List Entry) → zoneRead g z b ≡ good es → every (endFits g z) es ≡ true
+ends-fit : (g : Geometry) (z : ℕ) (b : List ℕ) (es : List Entry) → zoneRead g z b ≡ sound es → every (endFits g z) es ≡ true
 ends-fit g z b es e =
-    let p = both (every (idFits g) es && every (endFits g z) es) (not (eqb z (g .zones / 2)) || firstOwned 2 es) (read-parts g z b es e .owners) in
+    let p = both (every (idFits g) es && every (endFits g z) es) (not (eqb z (g .zones / 2)) || firstOwned 2 es) (zone-tests g z b es e .owners) in
     both (every (idFits g) es) (every (endFits g z) es) (p .0) .1
 
 module _ {m : List ℕ} {g : Geometry} (a : AcceptedMap m g) where

@@ -11,12 +11,13 @@ use Rattle.geometry.specs.declared.Geometry.{Geometry}
 use Rattle.model.specs.Chain.{Pair, Holder, free, owned, Entry}
 use Rattle.model.specs.Rules.{zoneBlock}
 use Rattle.model.specs.Pieces.{ownedIf, ownedOf, toDisc, pieceToDisc, piecesOfZones, isOf, piecesOf}
+use Rattle.model.proofs.Lists.{keep-append}
 use Rattle.zone.specs.Lines.{entriesIn}
 use Rattle.zone.proofs.ReadParts.{is-read}
 use Rattle.map.specs.Accepted.{AcceptedMap}
-use Rattle.listing.specs.Held.{heldBy, inDiscBits, heldFrom}
+use Rattle.listing.specs.HeldBy.{heldBy, inDiscBits, heldFrom}
 use Rattle.listing.proofs.HeldZones.{held-turn, held-end, ReadInTurn, zones-in-turn}
-use Rattle.listing.proofs.ObjectOrder.{keep-append, places, places-append}
+use Rattle.listing.proofs.ObjectOrder.{places, places-append}
 
 module _ (g : Geometry) (z id : ℕ) (some : 1 ≤ id) where
   zone-held : (es : List Entry) → places (piecesOf id (map (pieceToDisc g z) (ownedOf es))) ≡ inDiscBits g z (heldBy id es)

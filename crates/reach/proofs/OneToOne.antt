@@ -10,10 +10,10 @@ use borrow.Author.Tests.{ltb-true, ltb-false}
 use Rattle.bits.proofs.Tests.{by-test}
 use Rattle.geometry.specs.declared.Geometry.{Geometry}
 use Rattle.geometry.specs.Places.{discBits}
-use Rattle.model.specs.Chain.{Pair, Entry}
+use Rattle.model.specs.Chain.{Pair, Entry, Within}
 use Rattle.model.specs.Pieces.{Piece, piecesOfZones, piecesOf, late, objectPairs}
 use Rattle.map.specs.Accepted.{AcceptedMap}
-use Rattle.listing.specs.Laws.{Within, first}
+use Rattle.listing.specs.Laws.{first}
 use Rattle.listing.proofs.Filled.{discEntries, map-fills}
 use Rattle.listing.proofs.ObjectOrder.{places}
 use Rattle.listing.proofs.Hits.{hit, hits, spots, hit-at, fills-most, hits-parts, hits-rotated, hits-of-one}

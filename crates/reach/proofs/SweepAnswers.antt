@@ -19,7 +19,7 @@ use Rattle.model.specs.Verdict as read
 use Rattle.map.specs.Accepted.{AcceptedMap}
 use Rattle.map.specs.Checked.{checked}
 use Rattle.map.specs.declared.Checked.the-variants as check
-use Rattle.listing.specs.Held.{heldFrom}
+use Rattle.listing.specs.HeldBy.{heldFrom}
 use Rattle.listing.proofs.FreeHeld.{free-spans}
 use Rattle.listing.proofs.Ascend.{map-apart}
 use Rattle.reach.specs.declared.Swept.the-variants as swept

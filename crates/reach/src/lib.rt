@@ -11,7 +11,7 @@ ghost use lib.ListN.{length, take, drop, replicate};
 ghost use Rattle.geometry.specs.Accepted.{AcceptedGeometry};
 ghost use Rattle.map.specs.Accepted.{AcceptedMap};
 ghost use Rattle.zone.specs.Lines.{entriesIn};
-ghost use Rattle.listing.specs.Held.{ReadZone, pairsIn, heldBy, inDiscBits, heldFrom};
+ghost use Rattle.listing.specs.HeldBy.{ReadZone, pairsIn, heldBy, inDiscBits, heldFrom};
 ghost use Rattle.reach.specs.Address.{startOffset, seek, within, addressFound, addressAnswer};
 ghost use Rattle.reach.specs.Sweep.{sweptBytes, objectSweep, freeSweep, Sweeps};
 ghost use Rattle.reach.specs.Parts.{seekOf, wantedPair, pairCounts};

@@ -26,7 +26,8 @@ use Rattle.runs.proofs.RunsOnBytes.{length-kept}
 use Rattle.runs.proofs.ZonesTouched.{changeAt}
 use Rattle.runs.proofs.ZonesAfter.{zone-untouched, zone-released}
 use Rattle.release.specs.Zones.{hasPieces, touchedBelow, zoneAfter, ReleasedMap}
-use Rattle.release.proofs.TouchedZones.{zone-entries, touches-has, touched-alike}
+use Rattle.release.proofs.TouchedZones.{touches-has, touched-alike}
+use Rattle.listing.proofs.HeldZones.{zone-entries}
 
 module _ {m : List ℕ} (a : AcceptedMap m (geometryOf m)) (bytes : Bytes m) (apart : touching 0 (a .zones) ≡ none) (id : ℕ) (some : 1 ≤ id) (c : Call)
     (v : judge (geometryOf m) ((discOf m (a .zones)) .pieces) c ≡ judged.accepted (takes id (objectPairs (geometryOf m) id ((discOf m (a .zones)) .pieces)))) where

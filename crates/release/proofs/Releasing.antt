@@ -16,7 +16,7 @@ use Rattle.model.specs.Drawing.{Drawable}
 use Rattle.model.proofs.ByPlace.{zone-end}
 use Rattle.zone.specs.Lines.{entriesIn}
 use Rattle.map.specs.Accepted.{AcceptedMap}
-use Rattle.listing.proofs.HeldZones.{zone-reads}
+use Rattle.listing.proofs.HeldZones.{zone-reads, zone-entries}
 use Rattle.calls.specs.Edits.{without}
 use Rattle.runs.specs.Steps.{touching}
 use Rattle.runs.specs.Editable.{zonesIn, Editable}
@@ -25,7 +25,7 @@ use Rattle.writer.specs.ZoneEdit.{ZoneEdit}
 use Rattle.release.specs.Zones.{touchedIn, touchedBelow, zoneAfter, ReleasedMap}
 use Rattle.runs.proofs.BlockPut.{putBlock}
 use Rattle.runs.proofs.WrittenBelow.{WrittenBelow, written-starts, next-block, written-turn, written-ends}
-use Rattle.release.proofs.TouchedZones.{below-turn, below-few, zone-entries}
+use Rattle.release.proofs.TouchedZones.{below-turn, below-few}
 
 -- the two ways to say that no two free fragments touch
 pub zones-apart : {m : List ℕ} {g : Geometry} (a : AcceptedMap m g) → Editable m → touching 0 (a .zones) ≡ none

@@ -15,17 +15,16 @@ use Rattle.bits.proofs.Tests.{by-test}
 use Rattle.checks.specs.Cross.{touchedCount}
 use Rattle.geometry.specs.declared.Geometry.{Geometry}
 use Rattle.geometry.specs.Record.{geometryOf}
-use Rattle.model.specs.Chain.{Pair, Holder, free, owned, Entry}
+use Rattle.model.specs.Chain.{Holder, free, owned, Entry}
 use Rattle.model.specs.Rules.{zoneBlock}
 use Rattle.model.specs.Pieces.{Piece, ownedIf, ownedOf, pieceToDisc, piecesOf, objectPairs}
-use Rattle.zone.specs.Lines.{entriesIn, holderNumber}
-use Rattle.zone.proofs.ReadParts.{is-read}
+use Rattle.zone.specs.Lines.{holderNumber}
 use Rattle.map.specs.Accepted.{AcceptedMap}
-use Rattle.listing.specs.Held.{heldBy}
-use Rattle.listing.proofs.HeldZones.{ReadInTurn, zones-in-turn}
+use Rattle.listing.specs.HeldBy.{heldBy}
+use Rattle.listing.proofs.HeldZones.{zone-entries}
 use Rattle.calls.specs.Edits.{touches, touchedFrom}
 use Rattle.runs.specs.Steps.{touching, discOf}
-use Rattle.runs.proofs.ZonesTouched.{touches-object}
+use Rattle.runs.proofs.ZonesTouched.{touches-object, count-next}
 use Rattle.runs.proofs.ZonesAfter.{zone-pieces-at}
 use Rattle.release.specs.Zones.{hasPieces, touchedIn, touchedBelow}
 
@@ -40,20 +39,6 @@ pub below-few : (g : Geometry) (id : ℕ) (m : List ℕ) (z : ℕ) → touchedBe
 below-few g id m zero = omega arith
 below-few g id m (suc z) = omega (arith, below-few g id m z, touched-one g z id (zoneBlock g m z))
 
--- the same for the zones that pairs touch
-touches-turn : (g : Geometry) (qs : List Pair) (z n : ℕ) → touchedCount (touchedFrom g qs z (suc n)) ≡ touchedCount (touchedFrom g qs z n) + cond (touches g (z + n) qs) 1 0
-touches-turn g qs z zero =
-    let e : z ≡ z + 0 = omega arith in
-    by-test (touches g z qs)
-    (λ t. rw (t, sym (ap (λ (i : ℕ). touches g i qs) e) ∙ t))
-    (λ t. rw (t, sym (ap (λ (i : ℕ). touches g i qs) e) ∙ t))
-touches-turn g qs z (suc n) =
-    let e : touches g (suc z + n) qs ≡ touches g (z + suc n) qs = (let q : suc z + n ≡ z + suc n = omega arith in ap (λ (i : ℕ). touches g i qs) q) in
-    let ih = touches-turn g qs (suc z) n ∙ ap (λ (b : Bool). touchedCount (touchedFrom g qs (suc z) n) + cond b 1 0) e in
-    by-test (touches g z qs)
-    (λ t. rw t (omega (arith, ih)))
-    (λ t. rw t ih)
-
 -- the object's pieces of a zone
 pieces-held : (g : Geometry) (z id : ℕ) → 1 ≤ id → (es : List Entry) → length (piecesOf id (map (pieceToDisc g z) (ownedOf es))) ≡ length (heldBy id es)
 pieces-held g z id some [] = refl
@@ -63,21 +48,6 @@ pieces-held g z id some (e ∷ es) = go (e .holder) (pieces-held g z id some es)
         → length (piecesOf id (map (pieceToDisc g z) (ownedIf h (e .at) (ownedOf es)))) ≡ length (cond (eqb (holderNumber h) id) (e .at ∷ heldBy id es) (heldBy id es))
     go free ih = rw (ne-eqb 0 id (λ k. omega arith)) ih
     go (owned o) ih = by-test (eqb o id) (λ t. rw t (ap suc ih)) (λ t. rw t ih)
-
--- the entries of a zone by its place
-read-at : (m : List ℕ) (g : Geometry) (z : ℕ) (ess : List (List Entry)) → ReadInTurn m g z ess → (i : ℕ) → z + i < g .zones → entriesIn g (z + i) (zoneBlock g m (z + i)) ≡ getD ess i []
-read-at m g z [] r i h = absurd (omega arith)
-read-at m g z (es ∷ ess) r zero h =
-    let e : z + 0 ≡ z = omega arith in
-    ap (λ (x : ℕ). entriesIn g x (zoneBlock g m x)) e ∙ is-read g z (zoneBlock g m z) es (r .1) .0
-read-at m g z (es ∷ ess) r (suc i) h =
-    let e : z + suc i ≡ suc z + i = omega arith in
-    ap (λ (x : ℕ). entriesIn g x (zoneBlock g m x)) e ∙ read-at m g (suc z) ess (r .2) i (omega arith)
-
-pub zone-entries : {m : List ℕ} {g : Geometry} (a : AcceptedMap m g) (z : ℕ) → z < g .zones → entriesIn g z (zoneBlock g m z) ≡ getD (a .zones) z []
-zone-entries {m} {g} a z h =
-    let e : z ≡ 0 + z = omega arith in
-    ap (λ (x : ℕ). entriesIn g x (zoneBlock g m x)) e ∙ read-at m g 0 (a .zones) (zones-in-turn a) z (omega arith)
 
 module _ {m : List ℕ} (a : AcceptedMap m (geometryOf m)) (bytes : Bytes m) (apart : touching 0 (a .zones) ≡ none) (id : ℕ) (some : 1 ≤ id) where
   abbrev g : Geometry
@@ -99,6 +69,6 @@ module _ {m : List ℕ} (a : AcceptedMap m (geometryOf m)) (bytes : Bytes m) (ap
       → touchedCount (touchedFrom (geometryOf m) (objectPairs (geometryOf m) id ((discOf m (a .zones)) .pieces)) 0 z) ≡ touchedBelow (geometryOf m) id m z
   touched-alike zero h = refl
   touched-alike (suc z) h =
-      touches-turn g (objectPairs g id l) 0 z
+      count-next g (objectPairs g id l) 0 z
       ∙ ap₂ (λ (n : ℕ) (b : Bool). n + cond b 1 0) (touched-alike z (omega arith))
       (ap (λ (i : ℕ). touches g i (objectPairs g id l)) (zero-add z) ∙ touches-has z h)

@@ -15,7 +15,7 @@ use Rattle.model.specs.Pieces.{ownedOf}
 use Rattle.calls.specs.Edits.{without}
 use Rattle.runs.specs.Written.{written}
 use Rattle.zone.specs.Lines.{entriesIn}
-use Rattle.listing.specs.Held.{heldBy}
+use Rattle.listing.specs.HeldBy.{heldBy}
 use Rattle.release.specs.Zones.{hasPieces, touchedIn, zoneAfter}
 
 module _ (g : Geometry) (z id : ℕ) (b : List ℕ) (n : ℕ) (count : n ≡ length (heldBy id (entriesIn g z b))) where

@@ -15,7 +15,7 @@ use Rattle.model.specs.Rules.{zoneBlock}
 use Rattle.calls.specs.Edits.{without}
 use Rattle.runs.specs.Written.{written}
 use Rattle.zone.specs.Lines.{entriesIn}
-use Rattle.listing.specs.Held.{heldBy}
+use Rattle.listing.specs.HeldBy.{heldBy}
 
 -- whether zone z has pieces of an object, and 1 where it has
 abbrev pub hasPieces : Geometry → ℕ → ℕ → List ℕ → Bool

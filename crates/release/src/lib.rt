@@ -12,7 +12,7 @@ ghost use Prim.Native.Nat.{_+_, _≤_};
 ghost use Rattle.map.specs.Accepted.{AcceptedMap};
 ghost use Rattle.calls.specs.Judge.{editable};
 ghost use Rattle.runs.specs.Editable.{Editable};
-ghost use Rattle.listing.specs.Held.{ReadZone};
+ghost use Rattle.listing.specs.HeldBy.{ReadZone};
 ghost use Rattle.writer.specs.ZoneEdit.{ZoneEdit};
 ghost use Rattle.release.specs.Released.{Releases};
 ghost use Rattle.release.specs.Zones.{touchedIn, touchedBelow, zoneAfter, ReleasedMap};

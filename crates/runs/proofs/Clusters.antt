@@ -18,6 +18,7 @@ use Rattle.model.specs.Drawing.{gap, drawnFragments}
 use Rattle.model.specs.Verdict.{inClusters}
 use Rattle.model.proofs.ChainDrawn.{Lies}
 use Rattle.calls.proofs.Kept.{All}
+use Rattle.calls.proofs.Returned.{isWhole}
 use Rattle.runs.specs.Written.{toBlock}
 
 pub add-whole : (k a b : ℕ) → a % k ≡ 0 → b % k ≡ 0 → (a + b) % k ≡ 0
@@ -34,10 +35,7 @@ whole-le k a b z h j l =
     let lt : a / k < suc (b / k) = div-lt-iff-lt-mul z .1 (omega arith) in
     omega (arith, mul-le-mul-right {m = a / k} {n = b / k} k (omega arith))
 
--- a piece starts and ends with a cluster
-abbrev pub isWhole : ℕ → Piece → Bool
-isWhole k p = eqb (p .at .start % k) 0 && eqb (p .at .len % k) 0
-
+-- a piece that starts and ends with a cluster
 pub start-whole : (k : ℕ) (p : Piece) → isWhole k p ≡ true → p .at .start % k ≡ 0
 start-whole k p h = eqb-true (p .at .start % k) 0 ((both (eqb (p .at .start % k) 0) (eqb (p .at .len % k) 0) h) .0)
 

@@ -23,7 +23,8 @@ use Rattle.calls.specs.Judge.{pairFits, pairsFit, need, firstHole, taken}
 use Rattle.calls.proofs.Kept.{All, all-keep}
 use Rattle.calls.specs.Room.{In}
 use Rattle.calls.proofs.ClaimFits.{first-in, in-holes}
-use Rattle.runs.proofs.Clusters.{add-whole, sub-whole, isWhole, start-whole, len-whole, is-whole, from-whole, to-whole}
+use Rattle.calls.proofs.Returned.{isWhole}
+use Rattle.runs.proofs.Clusters.{add-whole, sub-whole, start-whole, len-whole, is-whole, from-whole, to-whole}
 
 -- a list
 pub list-whole : (g : Geometry) (id from : ℕ) (qs : List Pair) → pairsFit g id from qs ≡ true → All (isWhole (g .cluster)) (map (own id) qs)

@@ -19,9 +19,8 @@ use Rattle.calls.proofs.RunsKept.{unless-inv}
 use Rattle.calls.proofs.Thirteen.{thirteen}
 use Rattle.calls.proofs.Fourteen as onPieces
 use Rattle.runs.specs.Steps.{Outcome, refused, done, byVerdict, discOf, outcome}
-use Rattle.runs.specs.Editable.{zonesOf, Editable}
+use Rattle.runs.specs.Editable.{zonesOf, Editable, piecesOn}
 use Rattle.runs.specs.Demand3.{Accepted}
-use Rattle.runs.specs.Refusals.{piecesOn}
 use Rattle.runs.proofs.StepWritten.{outcome-judged}
 use Rattle.runs.proofs.MapAccepted.{map-geometry, map-disc}
 use Rattle.runs.proofs.EditsOf.{judged-done}
@@ -45,24 +44,24 @@ module _ (m : List ℕ) (ed : Editable m) where
   g = geometryOf m
 
   abbrev l : List Piece
-  l = piecesOn m
+  l = piecesOn (geometryOf m) m
 
   ok : AcceptedGeometry (geometryOf m)
   ok = map-geometry m (zonesOf m) (ed .bytes) (ed .accepted)
 
-  fit : FitPieces (geometryOf m) (piecesOn m)
+  fit : FitPieces (geometryOf m) (piecesOn (geometryOf m) m)
   fit = map-disc m (zonesOf m) (ed .bytes) (ed .accepted) (ed .apart) .pieces .fit
 
-  fate : (c : Call) → outcome m c ≡ byVerdict (geometryOf m) (discOf m (zonesOf m)) (judge (geometryOf m) (piecesOn m) c)
+  fate : (c : Call) → outcome m c ≡ byVerdict (geometryOf m) (discOf m (zonesOf m)) (judge (geometryOf m) (piecesOn (geometryOf m) m) c)
   fate c = outcome-judged m (zonesOf m) (ed .accepted) (ed .apart) c
 
-  told : (c : Call) (n z : ℕ) → outcome m c ≡ refused n z → judge (geometryOf m) (piecesOn m) c ≡ judged.refused n
-  told c n z h = judged-refused (geometryOf m) (discOf m (zonesOf m)) (judge (geometryOf m) (piecesOn m) c) n z (sym (fate c) ∙ h)
+  told : (c : Call) (n z : ℕ) → outcome m c ≡ refused n z → judge (geometryOf m) (piecesOn (geometryOf m) m) c ≡ judged.refused n
+  told c n z h = judged-refused (geometryOf m) (discOf m (zonesOf m)) (judge (geometryOf m) (piecesOn (geometryOf m) m) c) n z (sym (fate c) ∙ h)
 
   pub never-fourteen : (c : Call) (z : ℕ) → outcome m c ≡ refused 14 z → ⊥
   never-fourteen c z h = onPieces.never-fourteen g l c ok fit (told c 14 z h)
 
-  pub placed-had-room : (id : ℕ) (list : List ℕ) (e : Edit) → Accepted m (place id list) e → RoomFor (geometryOf m) id list (piecesOn m)
+  pub placed-had-room : (id : ℕ) (list : List ℕ) (e : Edit) → Accepted m (place id list) e → RoomFor (geometryOf m) id list (piecesOn (geometryOf m) m)
   placed-had-room id list e a =
       let h = judged-done m (zonesOf m) (ed .accepted) (ed .apart) (place id list) e (a .disc) (a .is) in
       let h1 = unless-inv (editable g id) _ _ e h in
@@ -71,15 +70,15 @@ module _ (m : List ℕ) (ed : Editable m) where
       let h4 = unless-inv (allApart g 0 (g .zones) (give id (pairsFrom list) l)) _ _ e (h3 .1) in
       thirteen g id list l ok fit (h3 .0) .0 (h4 .0)
 
-  pub thirteen-had-none : (id : ℕ) (list : List ℕ) → outcome m (place id list) ≡ refused 13 0 → RoomFor (geometryOf m) id list (piecesOn m) → ⊥
+  pub thirteen-had-none : (id : ℕ) (list : List ℕ) → outcome m (place id list) ≡ refused 13 0 → RoomFor (geometryOf m) id list (piecesOn (geometryOf m) m) → ⊥
   thirteen-had-none id list h r =
       let h1 = passed (editable g id) 8 13 _ (λ e. omega arith) (told (place id list) 13 0 h) in
       let h2 = passed (isEmpty (piecesOf id l)) 11 13 _ (λ e. omega arith) (h1 .1) in
       let h3 = passed (listFits g id list) 12 13 _ (λ e. omega arith) (h2 .1) in
       failed (allApart g 0 (g .zones) (give id (pairsFrom list) l)) 13 (gives id (pairsFrom list)) (h3 .1) (thirteen g id list l ok fit (h3 .0) .1 r)
 
-  pub without-room : (id : ℕ) (list : List ℕ) → editable (geometryOf m) id ≡ true → piecesOf id (piecesOn m) ≡ [] → listFits (geometryOf m) id list ≡ true
-      → (RoomFor (geometryOf m) id list (piecesOn m) → ⊥) → outcome m (place id list) ≡ refused 13 0
+  pub without-room : (id : ℕ) (list : List ℕ) → editable (geometryOf m) id ≡ true → piecesOf id (piecesOn (geometryOf m) m) ≡ [] → listFits (geometryOf m) id list ≡ true
+      → (RoomFor (geometryOf m) id list (piecesOn (geometryOf m) m) → ⊥) → outcome m (place id list) ≡ refused 13 0
   without-room id list a b c full =
       let e : isEmpty (piecesOf id l) ≡ true = ap isEmpty b in
       by-test (allApart g 0 (g .zones) (give id (pairsFrom list) l))

@@ -13,7 +13,7 @@ use Rattle.model.specs.Rules.{CheckRule, zoneBlock}
 use Rattle.model.specs.Table.{judgementOf}
 use Rattle.model.specs.Verdict.{MapRead, entries, mapRead, blocksOf}
 use Rattle.model.specs.Pieces.{Piece, piecesOfZones, objectPairs}
-use Rattle.model.proofs.Judging.{accepted-keeps-rules}
+use Rattle.model.proofs.MapJudged.{accepted-keeps-rules}
 use Rattle.bits.specs.Bits.{Bytes}
 use Rattle.calls.specs.Edits.{Disc, Edit}
 use Rattle.calls.specs.Judge.{Call}

@@ -13,16 +13,12 @@ use Rattle.geometry.specs.declared.Geometry.{Geometry}
 use Rattle.geometry.specs.Accepted.{AcceptedGeometry}
 use Rattle.geometry.specs.Places.{zoneOf}
 use Rattle.model.specs.Pieces.{Piece, keep}
+use Rattle.model.proofs.Lists.{keep-append}
 use Rattle.calls.specs.Edits.{inZone}
 use Rattle.calls.proofs.Kept.{All, keep-all}
 use Rattle.calls.proofs.ByPlace.{Weak, weak-weaken}
 use Rattle.calls.proofs.Invariant.{some-zone}
 use Rattle.runs.proofs.ZonePlaces.{zoneOfPiece}
-
--- those that pass a test, of two lists
-pub keep-append : (t : Piece → Bool) (a b : List Piece) → keep t (a ++ b) ≡ keep t a ++ keep t b
-keep-append t [] b = refl
-keep-append t (x ∷ xs) b = by-test (t x) (λ h. simp (h, keep-append t xs b)) (λ h. simp (h, keep-append t xs b))
 
 pub none-kept : (t : Piece → Bool) (l : List Piece) → All (λ p. not (t p)) l → keep t l ≡ []
 none-kept t [] h = refl

@@ -15,6 +15,7 @@ use Rattle.geometry.specs.Accepted.{AcceptedGeometry}
 use Rattle.model.specs.Chain.{Pair, numbersOf}
 use Rattle.model.specs.Pieces.{Piece, piecesOf, objectPairs}
 use Rattle.model.proofs.Options.{none-some, some-some}
+use Rattle.model.proofs.Lists.{length-numbers}
 use Rattle.calls.specs.Edits.{Disc, give, Edit, takes, gives}
 use Rattle.calls.specs.Holes.{holesFrom, allApart}
 use Rattle.calls.specs.Judge.{Call, release, place, claim, accepted, unless, isEmpty, editable, pairsFrom, pairsFit, listFits, need, firstHole, taken, lowest, claimIn, judge}
@@ -22,7 +23,7 @@ use Rattle.calls.proofs.Kept.{some-length}
 use Rattle.calls.proofs.HolesLeft.{apart-all}
 use Rattle.calls.proofs.Undo.{read-back}
 use Rattle.calls.proofs.RunsKept.{unless-inv, lowest-lt, allowed}
-use Rattle.calls.proofs.Returned.{listed-fits, pairs-numbers, length-numbers}
+use Rattle.calls.proofs.Returned.{listed-fits, pairs-numbers}
 use Rattle.runs.proofs.PiecesKept.{AcceptedPieces, accepted-edit}
 
 pub record GivenFacts (g : Geometry) (e : Edit) (id : ℕ) (qs : List Pair) : Type 0 where

@@ -14,7 +14,7 @@ pub mod BytesKept
 pub mod DiscKept
 pub mod RecordKept
 pub mod StepWritten
-pub mod ZoneTests
+pub mod PiecesTested
 pub mod ZoneFound
 pub mod MapFound
 pub mod MapAccepted

@@ -21,7 +21,7 @@ use Rattle.geometry.proofs.Numbers.{test-gives-accepted}
 use Rattle.model.specs.Chain.{Entry, noneTouch}
 use Rattle.model.specs.Blocks.{flat}
 use Rattle.model.specs.Pieces.{piecesOfZones}
-use Rattle.model.specs.Verdict.{ZoneRead, bad, good, MapRead, entries, joinZone, zoneRead, zonesRead, badCheck, crossSum, afterChecks, blocksRead, blocksOf, lengthFits, mapRead}
+use Rattle.model.specs.Verdict.{ZoneRead, fault, sound, MapRead, entries, joinZone, zoneRead, zonesRead, differing, crossSum, afterChecks, blocksRead, blocksOf, lengthFits, mapRead}
 use Rattle.model.specs.Verdict as read
 use Rattle.model.proofs.Options.{none-some}
 use Rattle.runs.specs.Steps.{touching, discOf}
@@ -41,12 +41,12 @@ entries-entries e = cc
 -- the zones one by one
 module _ (g : Geometry) (ok : AcceptedGeometry g) where
   pub zones-found : (z i j : ℕ) (bs : List (List ℕ)) (ess : List (List Entry)) → Sized (g .sector) bs → EachBytes bs
-      → badCheck i bs ≡ none → zonesRead g z bs ≡ entries ess → touching j ess ≡ none → ZonesFound g z bs ess
+      → differing i bs ≡ none → zonesRead g z bs ≡ entries ess → touching j ess ≡ none → ZonesFound g z bs ess
   zones-found z i j [] ess y w c r t = subst (ZonesFound g z []) (entries-entries r) tt
   zones-found z i j (b ∷ bs) ess y w c r t =
       go (zoneRead g z b) refl (zonesRead g (suc z) bs) refl r (λ ds e u. zones-found (suc z) (suc i) (suc j) bs ds (y .1) (w .1) (rest .1) e u)
     where
-      rest : (getD b 0 0 ≡ zoneCheck b) × (badCheck (suc i) bs ≡ none)
+      rest : (getD b 0 0 ≡ zoneCheck b) × (differing (suc i) bs ≡ none)
       rest =
           by-test (eqb (getD b 0 0) (zoneCheck b))
           (λ h. (eqb-true (getD b 0 0) (zoneCheck b) h, simp h at c))
@@ -54,9 +54,9 @@ module _ (g : Geometry) (ok : AcceptedGeometry g) where
 
       go : (v : ZoneRead) → zoneRead g z b ≡ v → (q : MapRead) → zonesRead g (suc z) bs ≡ q → joinZone z v q ≡ entries ess
           → ((ds : List (List Entry)) → zonesRead g (suc z) bs ≡ entries ds → touching (suc j) ds ≡ none → ZonesFound g (suc z) bs ds) → ZonesFound g z (b ∷ bs) ess
-      go (bad n) e q f h ih = absurd (refused-entries h)
-      go (good es) e (read.refused n a) f h ih = absurd (refused-entries h)
-      go (good es) e (entries ds) f h ih =
+      go (fault n) e q f h ih = absurd (refused-entries h)
+      go (sound es) e (read.refused n a) f h ih = absurd (refused-entries h)
+      go (sound es) e (entries ds) f h ih =
           let same : es ∷ ds ≡ ess = entries-entries h in
           let t2 : touching j (es ∷ ds) ≡ none = subst⁻¹ (λ (x : List (List Entry)). touching j x ≡ none) same t in
           subst (ZonesFound g z (b ∷ bs)) same
@@ -68,7 +68,7 @@ module _ (g : Geometry) (ok : AcceptedGeometry g) where
 pub record MapTests (m : List ℕ) (ess : List (List Entry)) : Type 0 where
   pub record-fits : recordFits (discRecord m) ≡ true
   pub whole : length m ≡ (geometryOf m) .zones * (geometryOf m) .sector
-  pub checks : badCheck 0 (blocksOf (geometryOf m) m) ≡ none
+  pub checks : differing 0 (blocksOf (geometryOf m) m) ≡ none
   pub sum : crossSum (blocksOf (geometryOf m) m) ≡ 255
   pub zones : zonesRead (geometryOf m) 0 (blocksOf (geometryOf m) m) ≡ entries ess
 
@@ -91,7 +91,7 @@ map-tests m ess e =
     let a = if-long (ltb (length m) 64) 1 0 (cond (recordFits (discRecord m)) (cond (lengthFits g m) (blocksRead g bs) (read.refused 1 0)) (read.refused 2 0)) ess e in
     let b = if-passed (recordFits (discRecord m)) 2 0 (cond (lengthFits g m) (blocksRead g bs) (read.refused 1 0)) ess a in
     let c = if-passed (lengthFits g m) 1 0 (blocksRead g bs) ess (b .1) in
-    let d = if-checked (badCheck 0 bs) (cond (eqb (crossSum bs) 255) (zonesRead g 0 bs) (read.refused 4 0)) ess (c .1) in
+    let d = if-checked (differing 0 bs) (cond (eqb (crossSum bs) 255) (zonesRead g 0 bs) (read.refused 4 0)) ess (c .1) in
     let f = if-passed (eqb (crossSum bs) 255) 4 0 (zonesRead g 0 bs) ess (d .1) in
     record { record-fits = b .0; whole = eqb-true (length m) (g .zones * g .sector) (c .0); checks = d .0; sum = eqb-true (crossSum bs) 255 (f .0); zones = f .1 }
 

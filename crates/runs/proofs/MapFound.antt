@@ -22,11 +22,11 @@ use Rattle.calls.proofs.Kept.{All, all-append}
 use Rattle.calls.proofs.ByPlace.{Weak, weak-weaken}
 use Rattle.calls.proofs.Gaps.{isLong}
 use Rattle.calls.proofs.Invariant.{FitPieces}
+use Rattle.calls.proofs.Returned.{isWhole}
 use Rattle.runs.specs.Written.{written, toBlock, writtenFrom}
 use Rattle.runs.proofs.BlockWritten.{as-written}
 use Rattle.runs.proofs.ZonePlaces.{zoneOfPiece, zone-from, zone-end, zone-low, block-back}
 use Rattle.runs.proofs.Gathered.{all-map, FromZone, in-zone-part, later-part}
-use Rattle.runs.proofs.Clusters.{isWhole}
 use Rattle.runs.proofs.ObjectRules.{oneFromEnd, twoFirst}
 use Rattle.runs.proofs.PiecesKept.{AcceptedPieces}
 use Rattle.runs.proofs.ZoneFound.{ZoneFound}

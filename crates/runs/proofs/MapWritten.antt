@@ -17,7 +17,7 @@ use Rattle.geometry.specs.Places.{firstBit, endBit}
 use Rattle.model.specs.Chain.{Entry, noneTouch}
 use Rattle.model.specs.Pieces.{Piece, pieceToDisc, piecesOfZones}
 use Rattle.model.specs.Drawing.{drawnEntries}
-use Rattle.model.specs.Verdict.{entries, joinZone, zonesRead, badCheck}
+use Rattle.model.specs.Verdict.{entries, joinZone, zonesRead, differing}
 use Rattle.model.proofs.ZoneDrawn.{owned-drawn}
 use Rattle.calls.specs.Edits.{inZone}
 use Rattle.calls.proofs.Kept.{all-kept}
@@ -79,7 +79,7 @@ cross-written g l z [] (b ∷ bs) e = absurd (omega arith)
 cross-written g l z (c ∷ cs) [] e = absurd (omega arith)
 cross-written g l z (c ∷ cs) (b ∷ bs) e = ap (λ (r : List ℕ). c ∷ r) (cross-written g l (suc z) cs bs (omega arith))
 
-pub checks-written : (g : Geometry) (l : List Piece) (z i : ℕ) (cs : List ℕ) (bs : List (List ℕ)) → length cs ≡ length bs → badCheck i (writtenFrom g l z cs bs) ≡ none
+pub checks-written : (g : Geometry) (l : List Piece) (z i : ℕ) (cs : List ℕ) (bs : List (List ℕ)) → length cs ≡ length bs → differing i (writtenFrom g l z cs bs) ≡ none
 checks-written g l z i cs [] e = refl
 checks-written g l z i [] (b ∷ bs) e = absurd (omega arith)
 checks-written g l z i (c ∷ cs) (b ∷ bs) e =

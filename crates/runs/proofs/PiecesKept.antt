@@ -29,7 +29,7 @@ use Rattle.calls.proofs.Gaps.{isLong}
 use Rattle.calls.proofs.Invariant.{FitPieces, some-bits, fit-asc, fit-without, list-long}
 use Rattle.calls.proofs.ClaimFits.{first-in, taken-len}
 use Rattle.calls.proofs.RunsKept.{unless-inv, same-edit, allowed}
-use Rattle.runs.proofs.Clusters.{isWhole}
+use Rattle.calls.proofs.Returned.{isWhole}
 use Rattle.runs.proofs.ClustersKept.{list-whole, claim-whole}
 use Rattle.runs.proofs.ObjectRules.{ObjectRules, one-keep, one-insert, two-keep, two-insert, apart-without}
 

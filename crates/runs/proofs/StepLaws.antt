@@ -12,7 +12,7 @@ use Rattle.geometry.specs.Record.{geometryOf}
 use Rattle.geometry.specs.Accepted.{AcceptedGeometry}
 use Rattle.model.specs.Chain.{Pair, numbersOf}
 use Rattle.model.specs.Pieces.{Piece, keep, piecesOf, late, rotate, objectPairs}
-use Rattle.calls.specs.Edits.{Disc, without, give, Edit, takes, gives, edit}
+use Rattle.calls.specs.Edits.{Disc, without, give, Edit, takes, gives, edit, editId}
 use Rattle.calls.specs.Judge.{Call, release, place, claim, Verdict, unless, isEmpty, editable, judge, obey}
 use Rattle.calls.specs.Judge as judged
 use Rattle.calls.specs.Runs.{edits, Undone, nothing, strike, released, restored}
@@ -23,7 +23,7 @@ use Rattle.calls.proofs.ReadsAfter.{ListedAfter, listed-after}
 use Rattle.calls.proofs.Undo.{Allowed}
 use Rattle.calls.proofs.Returned.{place-back, release-back}
 use Rattle.runs.specs.Steps.{Outcome, refused, done, byVerdict, discOf, outcome, bytesAfter, step, steps}
-use Rattle.runs.specs.Editable.{zonesOf, Editable, listedOn, NamedMoved, editId, ReadsAfter}
+use Rattle.runs.specs.Editable.{zonesOf, Editable, listedOn, NamedMoved, ReadsAfter}
 use Rattle.runs.specs.Demand3.{Accepted}
 use Rattle.runs.proofs.PiecesKept.{AcceptedPieces}
 use Rattle.runs.proofs.StepWritten.{outcome-judged}

@@ -19,21 +19,23 @@ use Rattle.model.specs.Chain.{Entry, onward, follow, noneTouch}
 use Rattle.model.specs.Blocks.{linkIn, allocBits}
 use Rattle.model.specs.Pieces.{ownedOf, pieceToDisc}
 use Rattle.model.specs.Drawing.{drawnFragments, drawnEntries, followAll}
-use Rattle.model.specs.Verdict.{good, every, inClusters, idFits, endFits, firstOwned, ownersFit, zoneRead}
+use Rattle.model.specs.Verdict.{sound, every, inClusters, idFits, endFits, firstOwned, ownersFit, zoneRead}
 use Rattle.model.proofs.Options.{some-some}
 use Rattle.model.proofs.FragmentsRead.{written-cut}
 use Rattle.model.proofs.Followed.{total}
 use Rattle.model.proofs.ChainDrawn.{Lies, Drawn, drawn-follow, follow-drawn, follow-lies}
 use Rattle.model.proofs.ZoneDrawn.{long-fit, length-frags}
+use Rattle.model.proofs.ZoneTests.{ZoneTests, zone-tests}
 use Rattle.calls.specs.Holes.{apart}
 use Rattle.calls.proofs.Kept.{All}
 use Rattle.calls.proofs.Gaps.{isLong}
+use Rattle.calls.proofs.Returned.{isWhole}
 use Rattle.runs.proofs.BlockBits.{BitsInBlock, alloc-length}
 use Rattle.runs.proofs.BlockWritten.{BlockRead}
 use Rattle.runs.proofs.ZonePlaces.{zoneOfPiece, zone-from, zone-end, zone-low, zone-bits, disc-zone}
-use Rattle.runs.proofs.Clusters.{isWhole, drawn-whole, first-whole, disc-whole}
+use Rattle.runs.proofs.Clusters.{drawn-whole, first-whole, disc-whole}
 use Rattle.runs.proofs.ObjectRules.{oneFromEnd, twoFirst}
-use Rattle.runs.proofs.ZoneTests.{ZoneTests, zone-tests, ids-of, one-of-ends, two-of-first, EachLong, long-of, long-drawn, apart-drawn, apart-disc}
+use Rattle.runs.proofs.PiecesTested.{ids-of, one-of-ends, two-of-first, EachLong, long-of, long-drawn, apart-drawn, apart-disc}
 
 -- fragments that were cut and followed are a drawing's
 pub record DrawnZone (idlen at end : ℕ) (fs : List Fragment) (es : List Entry) : Type 0 where
@@ -77,7 +79,7 @@ pub record ZoneFound (g : Geometry) (z : ℕ) (b : List ℕ) (es : List Entry) :
   pub clusters : All (isWhole (g .cluster)) (map (pieceToDisc g z) (ownedOf es))
 
 module _ (g : Geometry) (ok : AcceptedGeometry g) (z : ℕ) (b : List ℕ) (es : List Entry) (size : length b ≡ g .sector) (bytes : Bytes b)
-    (check : getD b 0 0 ≡ zoneCheck b) (none-touch : noneTouch false es ≡ true) (read : zoneRead g z b ≡ good es) where
+    (check : getD b 0 0 ≡ zoneCheck b) (none-touch : noneTouch false es ≡ true) (read : zoneRead g z b ≡ sound es) where
   abbrev at : ℕ
   at = firstBit z
 

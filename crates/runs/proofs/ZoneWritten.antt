@@ -19,7 +19,7 @@ use Rattle.model.specs.Chain.{Entry, onward, follow}
 use Rattle.model.specs.Blocks.{freeLink}
 use Rattle.model.specs.Pieces.{Piece}
 use Rattle.model.specs.Drawing.{firstFree, drawnFragments, linkOf, gapEntry, drawnEntries}
-use Rattle.model.specs.Verdict.{good, every, inClusters, idFits, endFits, firstOwned, ownersFit, afterCut, zoneRead}
+use Rattle.model.specs.Verdict.{sound, every, inClusters, idFits, endFits, firstOwned, ownersFit, afterCut, zoneRead}
 use Rattle.model.proofs.ChainDrawn.{Lies, linked, free-or-ahead, follow-drawn}
 use Rattle.model.proofs.ZoneDrawn.{lies}
 use Rattle.calls.specs.Edits.{inZone}
@@ -116,7 +116,7 @@ module _ (g : Geometry) (ok : AcceptedGeometry g) (l : List Piece) (k : Accepted
       two
 
   pub zone-written : (cross : ℕ) (b : List ℕ) → length b ≡ g .sector
-      → zoneRead g z (written (g .idlen) (firstBit z) (endBit g) (map (toBlock g z) (inZone g z l)) cross b) ≡ good (drawnEntries (firstBit z) (endBit g) (map (toBlock g z) (inZone g z l)))
+      → zoneRead g z (written (g .idlen) (firstBit z) (endBit g) (map (toBlock g z) (inZone g z l)) cross b) ≡ sound (drawnEntries (firstBit z) (endBit g) (map (toBlock g z) (inZone g z l)))
   zone-written cross b e =
       let W = written (g .idlen) (firstBit z) (endBit g) pieces cross b in
       let top : leb 32768 (freeLink W) ≡ true = le-leb 32768 (freeLink W) (top-written (g .idlen) (firstBit z) (endBit g) pieces cross b) in

@@ -16,6 +16,7 @@ use Rattle.geometry.specs.declared.Geometry.{Geometry}
 use Rattle.geometry.specs.Places.{zoneOf, blockBit}
 use Rattle.model.specs.Chain.{Pair}
 use Rattle.model.specs.Pieces.{Piece, keep, isOf, piecesOf, late, rotate, objectPairs}
+use Rattle.model.proofs.Lists.{keep-append}
 use Rattle.calls.specs.Edits.{Disc, notOf, without, insert, put, own, give, touches, touchedFrom, touchedZones, crossed, Edit, takes, gives, pairsIn, edit, inZone}
 use Rattle.calls.proofs.Kept.{All, all-put, keep-comm, length-parts}
 use Rattle.calls.proofs.ByPlace.{Weak, keep-put-by-place}
@@ -24,7 +25,19 @@ use Rattle.calls.proofs.Undo.{Allowed}
 use Rattle.calls.proofs.RunsKept.{cross-edit}
 use Rattle.runs.specs.Written.{toBlock}
 use Rattle.runs.proofs.ZonePlaces.{zoneOfPiece, zone-start}
-use Rattle.runs.proofs.Gathered.{keep-append}
+
+-- the touched zones counted, one more
+pub count-next : (g : Geometry) (qs : List Pair) (y n : ℕ) → touchedCount (touchedFrom g qs y (suc n)) ≡ touchedCount (touchedFrom g qs y n) + cond (touches g (y + n) qs) 1 0
+count-next g qs y zero =
+    let e : y + 0 ≡ y = omega arith in
+    by-test (touches g y qs) (λ t. rw (e, t) refl) (λ t. rw (e, t) refl)
+count-next g qs y (suc n) =
+    let e : suc y + n ≡ y + suc n = omega arith in
+    let r : touchedCount (touchedFrom g qs (suc y) (suc n)) ≡ touchedCount (touchedFrom g qs (suc y) n) + cond (touches g (y + suc n) qs) 1 0 =
+    count-next g qs (suc y) n ∙ ap (λ (x : ℕ). touchedCount (touchedFrom g qs (suc y) n) + cond (touches g x qs) 1 0) e in
+    by-test (touches g y qs)
+    (λ t. simp t (omega (arith, r)))
+    (λ t. simp t r)
 
 -- an edit's pairs lie in a zone just if it has pieces there
 pub touches-pieces : (g : Geometry) (z : ℕ) (l : List Piece) → touches g z (map (λ p. p .at) l) ≡ ltb 0 (length (inZone g z l))

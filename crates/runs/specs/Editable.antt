@@ -10,8 +10,8 @@ use Rattle.geometry.specs.Record.{geometryOf}
 use Rattle.model.specs.Chain.{Pair, Entry}
 use Rattle.model.specs.Rules.{zoneBlock}
 use Rattle.model.specs.Verdict.{MapRead, refused, entries, mapRead}
-use Rattle.model.specs.Pieces.{piecesOfZones, objectPairs}
-use Rattle.calls.specs.Edits.{Edit, takes, gives, pairsIn, touches}
+use Rattle.model.specs.Pieces.{piecesOfZones, objectPairs, Piece}
+use Rattle.calls.specs.Edits.{Edit, takes, gives, pairsIn, editId, touches}
 use Rattle.runs.specs.Steps.{touching}
 
 -- the entries of a map's zones; none where it is refused
@@ -22,6 +22,10 @@ zonesIn (entries ess) = ess
 abbrev pub zonesOf : List ℕ → List (List Entry)
 zonesOf m = zonesIn (mapRead m)
 
+-- the pieces of a map with geometry g, ascending by disc bit
+abbrev pub piecesOn : Geometry → List ℕ → List Piece
+piecesOn g m = piecesOfZones g 0 (zonesOf m)
+
 -- "an accepted map in which no two free fragments of a zone touch"
 pub record Editable (m : List ℕ) : Type 0 where
   pub bytes : Bytes m
@@ -30,16 +34,12 @@ pub record Editable (m : List ℕ) : Type 0 where
 
 -- an object's pieces as pairs, as the listing call shows them; "it is there if it has any"
 abbrev pub listedOn : List ℕ → ℕ → List Pair
-listedOn m id = objectPairs (geometryOf m) id (piecesOfZones (geometryOf m) 0 (zonesOf m))
+listedOn m id = objectPairs (geometryOf m) id (piecesOn (geometryOf m) m)
 
 -- the object that an edit names, and its pieces before and after
 abbrev pub NamedMoved : List ℕ → Edit → List ℕ → Type 0
 NamedMoved m (takes id qs) after = (listedOn m id ≡ qs) × (listedOn after id ≡ [])
 NamedMoved m (gives id qs) after = (listedOn m id ≡ []) × (listedOn after id ≡ qs)
-
-abbrev pub editId : Edit → ℕ
-editId (takes id qs) = id
-editId (gives id qs) = id
 
 -- demand 2: "After an edit the map reads as the old one with only the named pieces moved between free and owned."
 pub record ReadsAfter (m : List ℕ) (e : Edit) (after : List ℕ) : Type 0 where

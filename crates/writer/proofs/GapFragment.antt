@@ -11,11 +11,8 @@ use borrow.Author.Tests.{lt-ltb, le-ltb}
 use Rattle.bits.specs.Bits.{numberBits}
 use Rattle.model.specs.Fragments.{closed}
 use Rattle.model.specs.Drawing.{Hole}
-use Rattle.model.proofs.ZoneDrawn.{lies}
+use Rattle.model.proofs.ZoneDrawn.{lies, hole-le}
 use Rattle.writer.specs.Redraw.{GapAsks, GapDrawn}
-
-pub hole-le : (idlen from to : ℕ) → Hole idlen from to → from ≤ to
-hole-le idlen from to h = lies idlen from to [] h
 
 hole-room : (idlen from to : ℕ) → Hole idlen from to → from < to → from + idlen < to
 hole-room idlen from to (inl e) h = omega arith

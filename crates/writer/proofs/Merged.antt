@@ -12,19 +12,18 @@ use Rattle.bits.proofs.Tests.{by-test}
 use Rattle.model.specs.Chain.{Pair}
 use Rattle.model.specs.Pieces.{Piece}
 use Rattle.model.specs.Drawing.{Hole, Drawable}
-use Rattle.model.proofs.ZoneDrawn.{lies, lies-le}
+use Rattle.model.proofs.ZoneDrawn.{lies, lies-le, hole-le}
 use Rattle.calls.specs.Order.{Ascending}
 use Rattle.calls.specs.Edits.{notOf, without, put, own}
 use Rattle.calls.specs.Judge.{pairsFrom}
-use Rattle.calls.proofs.ByPlace.{Weak, weak-weaken, weak-keep, asc-weak}
+use Rattle.calls.proofs.ByPlace.{Weak, weak-weaken, weak-keep, asc-weak, insert-before}
 use Rattle.calls.proofs.PutIn.{asc-weaken}
 use Rattle.writer.specs.declared.Plan.{Plan}
 use Rattle.writer.specs.declared.Stretch.{Stretch}
 use Rattle.writer.specs.Redraw.{piecesFrom, GapAsks}
 use Rattle.writer.specs.Merge.{inBlock, listedFrom, firstStretch, PassedOver, mergedFrom, RedrawAsks}
-use Rattle.writer.proofs.GapFragment.{hole-le}
 use Rattle.writer.proofs.Opened.{piece, Opened, was-owned, none-left}
-use Rattle.writer.proofs.Starts.{weak-put, insert-before, put-behind, read-from}
+use Rattle.writer.proofs.Starts.{weak-put, put-behind, read-from}
 use Rattle.writer.proofs.ListedPairs.{no-pairs, next-pairs}
 use Rattle.writer.proofs.Passing.{without-other}
 

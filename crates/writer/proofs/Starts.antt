@@ -4,11 +4,11 @@ use mathlib.Core.Path.{_≡_, refl, ap, _∙_}
 use mathlib.Core.Bool.{Bool}
 use mathlib.Core.List.{List, [], _∷_}
 use mathlib.Core.Option.{Option, none, some}
-use Prim.Native.Nat.{ℕ, _+_, _<_}
+use Prim.Native.Nat.{ℕ, _+_}
 use native.Mathlib.Omega.{arith}
 use lib.Dec.{eqb}
 use lib.Seq.{slice}
-use borrow.Author.Tests.{lt-ltb, le-ltb}
+use borrow.Author.Tests.{le-ltb}
 use Rattle.bits.proofs.Tests.{by-test}
 use Rattle.model.specs.Fragments.{Fragment, fragmentsIn}
 use Rattle.model.specs.Chain.{free, owned, Entry, entry, onward, before, follow}
@@ -21,11 +21,6 @@ use Rattle.writer.specs.Redraw.{followFrom, ownedIn, piecesFrom}
 pub weak-put : (f : ℕ) (qs l : List Piece) → Weak f qs → Weak f l → Weak f (put qs l)
 weak-put f [] l a b = b
 weak-put f (q ∷ qs) l a b = weak-insert f q (put qs l) (a .0) (weak-put f qs l (weak-weaken qs (a .0) (a .1)) b)
-
--- a piece put in before all others
-pub insert-before : (p : Piece) (f : ℕ) (l : List Piece) → p .at .start < f → Weak f l → insert p l ≡ p ∷ l
-insert-before p f [] h a = refl
-insert-before p f (x ∷ xs) h a = simp (lt-ltb (p .at .start) (x .at .start) (omega arith))
 
 -- a piece before all that are put in
 pub put-behind : (qs : List Piece) (p : Piece) (l : List Piece) → Weak (p .at .start) qs → put qs (p ∷ l) ≡ p ∷ put qs l

@@ -1,5 +1,5 @@
 -- A whole zone, as `edit_zone` has it: what it asks gives what the writer asks at the zone's first bit, and the pieces merged
--- from there on are those of the edit. The zone was read, so its bits can be read from the first on (`read-parts`).
+-- from there on are those of the edit. The zone was read, so its bits can be read from the first on (`zone-tests`).
 use mathlib.Core.Path.{_≡_, refl, sym, ap, ap₂, _∙_, subst, subst⁻¹}
 use mathlib.Core.List.{List, [], _∷_, map}
 use mathlib.Core.Option.{Option, some}
@@ -18,12 +18,12 @@ use Rattle.model.specs.Chain.{Pair, Entry, onward}
 use Rattle.model.specs.Blocks.{linkIn}
 use Rattle.model.specs.Pieces.{Piece}
 use Rattle.model.specs.Drawing.{Drawable}
+use Rattle.model.proofs.ZoneTests.{zone-tests}
 use Rattle.calls.specs.Order.{Ascending}
 use Rattle.calls.specs.Edits.{without, put, own}
 use Rattle.calls.specs.Judge.{pairsFrom}
 use Rattle.runs.specs.Written.{sealed, written, toBlock}
 use Rattle.zone.specs.Lines.{entriesIn}
-use Rattle.zone.proofs.ReadParts.{read-parts}
 use Rattle.zone.proofs.AllocBits.{alloc-slice, first-high}
 use Rattle.writer.specs.declared.Plan.{Plan}
 use Rattle.writer.specs.ZoneEdit.{editedPieces, ZoneEdit}
@@ -51,9 +51,9 @@ module _ {g : Geometry} {z gone id : ℕ} {block list : List ℕ} (q : ZoneEdit 
 
   read-is : readFrom (g .idlen) (firstBit z) (endBit g) (onward 8 (linkIn block)) (byteBits block) ≡ some (entriesIn g z block)
   read-is =
-      let r = read-parts g z block (entriesIn g z block) (q .kept) in
+      let r = zone-tests g z block (entriesIn g z block) (q .kept) in
       let e : fragmentsIn (g .idlen) (slice (firstBit z) (endBit g) (byteBits block)) ≡ some (r .fragments) =
-      ap (fragmentsIn (g .idlen)) (sym (alloc-slice (firstBit z) (endBit g) block block-head (first-low z) first-before-end)) ∙ r .cuts in
+      ap (fragmentsIn (g .idlen)) (sym (alloc-slice (firstBit z) (endBit g) block block-head (first-low z) first-before-end)) ∙ r .cut in
       simp e (r .chain)
 
   merged-whole : mergedFrom block list 0 (firstBit z) (onward 8 (linkIn block)) (planOf g z gone id (endBit g)) ≡ editedPieces g z block gone list id

@@ -15,10 +15,11 @@ use Rattle.model.specs.Blocks.{linkIn, allocBits}
 use Rattle.model.proofs.FragmentsRead.{written-cut}
 use Rattle.model.proofs.Followed.{total, none-left}
 use Rattle.model.proofs.ZoneDrawn.{length-frags}
+use Rattle.model.proofs.ZoneTests.{zone-tests}
 use Rattle.fragment.specs.Found.{nextAfter}
 use Rattle.zone.specs.Lines.{entriesIn, IsRead}
 use Rattle.zone.proofs.AllocBits.{first-high, ZoneBlock, bits-left, alloc-all}
-use Rattle.zone.proofs.ReadParts.{read-parts, chain-parts}
+use Rattle.zone.proofs.ReadParts.{chain-parts}
 
 long-each : (n : ℕ) (fs : List Fragment) → 10 ≤ n → Formed (suc n) fs → 12 * length fs ≤ total fs
 long-each n [] h f = omega arith
@@ -32,9 +33,9 @@ follow-count at next (f ∷ fs) es e =
 
 pub few : (g : Geometry) → AcceptedGeometry g → (b : List ℕ) → length b ≡ g .sector → (z : ℕ) → IsRead g z b → 3 * length (entriesIn g z b) ≤ 2048
 few g ok b sized z rd =
-    let p = read-parts g z b (entriesIn g z b) rd in
+    let p = zone-tests g z b (entriesIn g z b) rd in
     let k : ZoneBlock g b (endBit g) = record { numbers = ok; sized = sized; ends = refl } in
-    let w = written-cut (g .idlen - 1) (allocBits (firstBit z) (endBit g) b) (p .fragments) (p .cuts) in
+    let w = written-cut (g .idlen - 1) (allocBits (firstBit z) (endBit g) b) (p .fragments) (p .cut) in
     let t : length (allocBits (firstBit z) (endBit g) b) ≡ total (p .fragments) = ap length (w .0) ∙ length-frags (suc (g .idlen - 1)) (p .fragments) (w .1) in
     let a : length (allocBits (firstBit z) (endBit g) b) ≡ endBit g - firstBit z = ap length (alloc-all k z (firstBit z) refl (first-low z) (first-high z)) ∙ bits-left k (firstBit z) in
     let l : 12 * length (p .fragments) ≤ total (p .fragments) = long-each (g .idlen - 1) (p .fragments) (omega (arith, ok .idlen-low)) (w .1) in

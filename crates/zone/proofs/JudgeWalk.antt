@@ -10,10 +10,10 @@ use lib.Dec.{eqb, leb}
 use lib.Seq.{slice, slice-empty}
 use borrow.Author.Tests.{eq-eqb, ne-eqb}
 use Rattle.bits.specs.Bits.{byteBits}
-use Rattle.bits.proofs.Tests.{by-test}
+use Rattle.bits.proofs.Tests.{by-test, and-with-true, and-with-false}
 use Rattle.fragment.specs.Found.{fragmentAt, nextAfter}
 use Rattle.fragment.specs.declared.Found.the-variants as found
-use Rattle.fragment.proofs.Step.{inFront, fragmentOf}
+use Rattle.fragment.proofs.Step.{fragmentOf}
 use Rattle.fragment.proofs.FoundCut.{FoundWhole, FoundBroken, unclosed, uneven}
 use Rattle.geometry.specs.declared.Geometry.{Geometry}
 use Rattle.geometry.specs.Places.{firstBit, endBit}
@@ -55,20 +55,11 @@ verdict-first g z b (some fs) =
     (λ t. simp (h, t)))
     (λ h. simp h)
 
--- a fragment passed
-and-false : (b : Bool) → b && false ≡ false
-and-false true = refl
-and-false false = refl
-
-and-with-true : (b : Bool) → b && true ≡ b
-and-with-true true = refl
-and-with-true false = refl
-
 -- o: the entries passed; i, d, p: this entry's three rules; s, t: those of the entries after it
 regroup : (o i s d t p : Bool) → o && ((i && s) && (d && t) && p) ≡ (o && ((i && d) && p)) && (s && t && true)
 regroup false i s d t p = refl
 regroup true false s d t p = refl
-regroup true true false d t p = sym (and-false (d && p))
+regroup true true false d t p = sym (and-with-false (d && p))
 regroup true true true false t p = refl
 regroup true true true true false true = refl
 regroup true true true true false false = refl
@@ -90,7 +81,7 @@ chain-turn g z first owners at next id len fs =
     (λ h. simp h (chain-entry g z first owners at id len (owned id) (follow (at + len) next fs)))
 
 verdict-turn : (g : Geometry) (z : ℕ) (top first : Bool) (at next : ℕ) (owners : Bool) (id len : ℕ) (r : Option (List Fragment)) → len % g .cluster ≡ 0
-    → verdictFrom g z top first at next owners (inFront (fragmentOf id len) r)
+    → verdictFrom g z top first at next owners (before (fragmentOf id len) r)
     ≡ verdictFrom g z top false (at + len) (nextAfter at next id) (owners && entryHolds g z first (at + len) (holderOf (eqb at next) id)) r
 verdict-turn g z top first at next owners id len none e = refl
 verdict-turn g z top first at next owners id len (some fs) e =
@@ -134,8 +125,8 @@ module _ {g : Geometry} {b : List ℕ} {end : ℕ} (k : ZoneBlock g b end) where
     judge-turn {id} {len} h e =
         let w : FoundWhole (g .idlen - 1) (g .cluster) (slice at end (byteBits b)) id len = whole-cuts k at h e in
         let f : (0 < len) × (at + len ≤ end) = whole-fits k at h e in
-        let c : cut (g .idlen - 1) edge (slice at end (byteBits b)) ≡ inFront (fragmentOf id len) (cut (g .idlen - 1) edge (slice (at + len) end (byteBits b))) =
-        w .cuts ∙ ap (λ (x : List Bool). inFront (fragmentOf id len) (cut (g .idlen - 1) edge x)) (bits-after k at len) in
+        let c : cut (g .idlen - 1) edge (slice at end (byteBits b)) ≡ before (fragmentOf id len) (cut (g .idlen - 1) edge (slice (at + len) end (byteBits b))) =
+        w .cuts ∙ ap (λ (x : List Bool). before (fragmentOf id len) (cut (g .idlen - 1) edge x)) (bits-after k at len) in
         let n : eqb (at + len) start ≡ false = ne-eqb (at + len) start (λ x. omega (arith, j .low)) in
         record {
           low = omega (arith, j .low);

@@ -3,3 +3,4 @@ pub mod JudgeWalk
 pub mod ReadParts
 pub mod ListWalk
 pub mod Few
+pub mod LineThrees

@@ -23,11 +23,12 @@ use Rattle.model.specs.Chain.{Entry, entry, onward, follow}
 use Rattle.model.specs.Blocks.{linkIn}
 use Rattle.model.specs.Verdict.{inClusters}
 use Rattle.model.proofs.Options.{none-some, some-some}
-use Rattle.model.proofs.Followed.{none-left}
+use Rattle.model.proofs.Followed.{none-left, before-inv}
+use Rattle.model.proofs.ZoneTests.{zone-tests}
 use Rattle.zone.specs.Walk.{holderOf}
 use Rattle.zone.specs.Lines.{entriesIn, IsRead, holderNumber, lines}
 use Rattle.zone.proofs.AllocBits.{ZoneBlock, alloc-all, whole-cuts, broken-cuts, whole-fits, bits-after}
-use Rattle.zone.proofs.ReadParts.{read-parts, cut-parts, chain-parts}
+use Rattle.zone.proofs.ReadParts.{chain-parts}
 
 pub three-stored : (l : List ℕ) (i a b c : ℕ) → i + 3 ≤ length l → set (set (set l i a) (i + 1) b) (i + 2) c ≡ take i l ++ (a ∷ b ∷ c ∷ []) ++ drop (i + 3) l
 three-stored l i a b c h = rw (add-one, add-two) (sets-eq (a ∷ b ∷ c ∷ []) l i h)
@@ -57,7 +58,7 @@ module _ {g : Geometry} {b : List ℕ} {end : ℕ} (k : ZoneBlock g b end) where
   pub list-starts : (z : ℕ) (out₀ : List ℕ) (start next : ℕ) → IsRead g z b → start ≡ firstBit z → 32 ≤ start → start ≤ 512 → next ≡ onward 8 (linkIn b)
       → ListedSoFar b z g end out₀ out₀ start next 0
   list-starts z out₀ start next rd es l h en =
-      let p = read-parts g z b (entriesIn g z b) rd in
+      let p = zone-tests g z b (entriesIn g z b) rd in
       record {
         low = omega arith;
         high = omega (arith, k .numbers .bits-low, k .ends);
@@ -65,8 +66,8 @@ module _ {g : Geometry} {b : List ℕ} {end : ℕ} (k : ZoneBlock g b end) where
         fragments = p .fragments;
         to-come = entriesIn g z b;
         count = refl;
-        cuts = ap (cut (g .idlen - 1) edge) (sym (alloc-all k z start es l h)) ∙ p .cuts;
-        in-clusters = p .in-clusters;
+        cuts = ap (cut (g .idlen - 1) edge) (sym (alloc-all k z start es l h)) ∙ p .cut;
+        in-clusters = p .clusters;
         chain = ap₂ (λ (x y : ℕ). follow x y (p .fragments)) es en ∙ p .chain;
         all = refl;
         stored = refl;
@@ -82,7 +83,7 @@ module _ {g : Geometry} {b : List ℕ} {end : ℕ} (k : ZoneBlock g b end) where
           × (inClusters (g .cluster) fs ≡ true) × (follow (at + len) (nextAfter at next id) fs ≡ some gs) × (j .to-come ≡ this ∷ gs)
       next-entry =
           let w : FoundWhole (g .idlen - 1) (g .cluster) (slice at end (byteBits b)) id len = whole-cuts k at h e in
-          let f = cut-parts (fragmentOf id len) (cut (g .idlen - 1) edge (drop len (slice at end (byteBits b)))) (j .fragments) (sym (w .cuts) ∙ j .cuts) in
+          let f = before-inv (fragmentOf id len) (cut (g .idlen - 1) edge (drop len (slice at end (byteBits b)))) (j .fragments) (sym (w .cuts) ∙ j .cuts) in
           let q = chain-parts at next id len (f .0) (j .to-come) (subst (λ (x : List Fragment). follow at next x ≡ some (j .to-come)) (f .2) (j .chain)) in
           let v = subst (λ (x : List Fragment). inClusters (g .cluster) x ≡ true) (f .2) (j .in-clusters) in
           (f .0, q .0, ap (cut (g .idlen - 1) edge) (sym (bits-after k at len)) ∙ f .1, both (eqb (len % g .cluster) 0) (inClusters (g .cluster) (f .0)) v .1, q .1, q .2)
@@ -131,7 +132,7 @@ module _ {g : Geometry} {b : List ℕ} {end : ℕ} (k : ZoneBlock g b end) where
         go : FoundBroken (g .idlen - 1) (g .cluster) (slice at end (byteBits b)) → ⊥
         go (unclosed u) = none-some (sym u ∙ j .cuts)
         go (uneven f r c u) =
-            let i = cut-parts f r (j .fragments) (sym c ∙ j .cuts) in
+            let i = before-inv f r (j .fragments) (sym c ∙ j .cuts) in
             let v : inClusters (g .cluster) (f ∷ i .0) ≡ true = subst (λ (x : List Fragment). inClusters (g .cluster) x ≡ true) (i .2) (j .in-clusters) in
             let w : false ≡ true = simp u at v in
             false≢true w

@@ -5,19 +5,19 @@ use Prim.Native.Nat.{ℕ}
 use Rattle.geometry.specs.declared.Geometry.{Geometry}
 use Rattle.geometry.specs.Places.{discBit}
 use Rattle.model.specs.Chain.{Holder, free, owned, Entry}
-use Rattle.model.specs.Verdict.{ZoneRead, bad, good, zoneRead}
+use Rattle.model.specs.Verdict.{ZoneRead, fault, sound, zoneRead}
 
 -- the entries of a zone that was read
 abbrev pub entriesOf : ZoneRead → List Entry
-entriesOf (bad n) = []
-entriesOf (good es) = es
+entriesOf (fault n) = []
+entriesOf (sound es) = es
 
 abbrev pub entriesIn : Geometry → ℕ → List ℕ → List Entry
 entriesIn g z block = entriesOf (zoneRead g z block)
 
 -- the zone keeps the rules
 abbrev pub IsRead : Geometry → ℕ → List ℕ → Type 0
-IsRead g z block = zoneRead g z block ≡ good (entriesIn g z block)
+IsRead g z block = zoneRead g z block ≡ sound (entriesIn g z block)
 
 abbrev pub holderNumber : Holder → ℕ
 holderNumber free = 0

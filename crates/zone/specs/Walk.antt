@@ -5,7 +5,7 @@ use lib.Dec.{eqb, leb}
 use Rattle.geometry.specs.declared.Geometry.{Geometry}
 use Rattle.geometry.specs.Places.{discBit}
 use Rattle.model.specs.Chain.{Holder, free, owned}
-use Rattle.model.specs.Verdict.{ZoneRead, bad, good, isOwned, holderFits}
+use Rattle.model.specs.Verdict.{ZoneRead, fault, sound, isOwned, holderFits}
 use Rattle.zone.specs.declared.ZoneVerdict.{ZoneVerdict}
 use Rattle.zone.specs.declared.ZoneVerdict.the-variants.{Kept, Broken}
 
@@ -25,5 +25,5 @@ entryHolds g z first to h = (holderFits g h && endHolds g z to h) && firstHolds 
 
 -- the walker's answer for a zone read
 abbrev pub verdictOf : ZoneRead → ZoneVerdict
-verdictOf (bad n) = Broken n
-verdictOf (good es) = Kept
+verdictOf (fault n) = Broken n
+verdictOf (sound es) = Kept

@@ -4,12 +4,12 @@ use mathlib.Core.Path.{_≡_, refl}
 use native.Mathlib.Omega.{arith}
 use lib.ListN.{length, take}
 use Rattle.bits.specs.Bits.{byteBits}
-use Rattle.holes.proofs.LinesApart.{linesLeft}
 use Rattle.claim.specs.Unused.{cleared, holdersIn}
 use Rattle.claim.proofs.Cleared.{line-cleared, lines-cleared}
 use borrow.Author.Needs.{needs}
 use Rattle.claim.proofs.clear_lines.Statement.{statement}
 use Rattle.claim.proofs.clear_lines.Tie as tie
+use Rattle.zone.proofs.LineThrees.{linesLeft}
 
 abbrev Inv-loop : tie.InvT-loop
 Inv-loop lines n unused₀ i₀ unused i = (i ≤ n) × (length unused ≡ length unused₀) × (cleared (holdersIn (linesLeft n lines i)) (byteBits unused) ≡ cleared (holdersIn (take (3 * n) lines)) (byteBits unused₀))

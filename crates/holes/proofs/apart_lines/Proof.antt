@@ -6,9 +6,10 @@ use mathlib.Core.Bool.{false}
 use lib.ListN.{take}
 use borrow.Author.Needs.{needs}
 use Rattle.holes.specs.Touching.{apartLines}
-use Rattle.holes.proofs.LinesApart.{linesLeft, apart-stops, apart-goes-on, apart-ends}
+use Rattle.holes.proofs.LinesApart.{apart-stops, apart-goes-on, apart-ends}
 use Rattle.holes.proofs.apart_lines.Statement.{statement}
 use Rattle.holes.proofs.apart_lines.Tie as tie
+use Rattle.zone.proofs.LineThrees.{linesLeft}
 
 abbrev Inv-loop : tie.InvT-loop
 Inv-loop lines n free₀ i₀ free i = (i ≤ n) × (apartLines free (linesLeft n lines i) ≡ apartLines false (take (3 * n) lines))

@@ -5,7 +5,7 @@ use native.Mathlib.Nat.{sub-zero}
 use native.Mathlib.Omega.{arith}
 use Rattle.model.proofs.ByPlace.{zone-end}
 use Rattle.calls.specs.Judge.{firstHole}
-use Rattle.listing.specs.Held.{heldFrom}
+use Rattle.listing.specs.HeldBy.{heldFrom}
 use Rattle.listing.proofs.HeldZones.{zone-reads}
 use Rattle.holes.specs.Hole.{holeOf}
 use Rattle.holes.proofs.HoleFound.{no-hole, hole-at, zone-taken, zone-passed, zones-over}

@@ -5,7 +5,7 @@ use native.Mathlib.Omega.{arith}
 use lib.ListN.{take}
 use borrow.Author.Needs.{needs}
 use Rattle.calls.specs.Judge.{firstHole}
-use Rattle.listing.specs.Held.{pairsIn}
+use Rattle.listing.specs.HeldBy.{pairsIn}
 use Rattle.listing.proofs.Lines.{linesFrom}
 use Rattle.holes.specs.Hole.{holeOf}
 use Rattle.holes.proofs.HoleFound.{lines-taken, lines-passed, lines-over}

@@ -3,7 +3,7 @@ use Prim.Native.Nat.{_+_, _-_, _*_, _≤_}
 use mathlib.Core.Path.{_≡_, ap}
 use native.Mathlib.Omega.{arith}
 use lib.ListN.{length, take}
-use Rattle.listing.specs.Held.{pairsIn}
+use Rattle.listing.specs.HeldBy.{pairsIn}
 use Rattle.listing.proofs.Lines.{linesFrom, count-turn, lines-end}
 use borrow.Author.Needs.{needs}
 use Rattle.listing.proofs.count_lines.Statement.{statement}

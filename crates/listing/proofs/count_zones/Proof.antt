@@ -5,7 +5,7 @@ use native.Mathlib.Nat.{sub-zero}
 use native.Mathlib.Omega.{arith}
 use lib.ListN.{length}
 use Rattle.model.proofs.ByPlace.{zone-end}
-use Rattle.listing.specs.Held.{heldFrom}
+use Rattle.listing.specs.HeldBy.{heldFrom}
 use Rattle.listing.proofs.HeldZones.{held-end, zone-counted, zone-reads}
 use borrow.Author.Needs.{needs}
 use Rattle.listing.proofs.count_zones.Statement.{statement}

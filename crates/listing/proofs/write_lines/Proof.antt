@@ -2,7 +2,7 @@
 use Prim.Native.Nat.{_-_, _*_, _≤_}
 use mathlib.Core.Path.{refl}
 use lib.ListN.{take}
-use Rattle.listing.specs.Held.{pairsIn}
+use Rattle.listing.specs.HeldBy.{pairsIn}
 use Rattle.listing.proofs.Stored.{StoredSoFar, stored-starts, stored-ends}
 use Rattle.listing.proofs.Lines.{linesFrom, lines-end, line-room, line-turn}
 use borrow.Author.Needs.{needs}

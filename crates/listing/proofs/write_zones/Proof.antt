@@ -4,7 +4,7 @@ use Prim.Native.Nat.{_-_, _≤_}
 use mathlib.Core.Path.{refl}
 use native.Mathlib.Omega.{arith}
 use Rattle.model.proofs.ByPlace.{zone-end}
-use Rattle.listing.specs.Held.{heldFrom}
+use Rattle.listing.specs.HeldBy.{heldFrom}
 use Rattle.listing.proofs.Stored.{StoredSoFar, stored-starts, stored-ends}
 use Rattle.listing.proofs.HeldZones.{held-end, zone-room, zone-stored, zone-reads}
 use borrow.Author.Needs.{needs}

@@ -21,8 +21,8 @@ cross-checks-requires c κs = search needs
 returns : tie.Need-returns
 returns c =
     let a = c .before .before .before .before .before .before .args in
-    let none-bad = sym (c .before .before .before .before .zone-checks .ensures) ∙ c .before .before .enum-told .given .1 in
-    cross-differs (a .g) (blocksOf (a .g) (a .map .now)) none-bad (c .before .cross-checks .result) (c .before .cross-checks .ensures) (c .if1 .taken)
+    let none-differs = sym (c .before .before .before .before .zone-checks .ensures) ∙ c .before .before .enum-told .given .1 in
+    cross-differs (a .g) (blocksOf (a .g) (a .map .now)) none-differs (c .before .cross-checks .result) (c .before .cross-checks .ensures) (c .if1 .taken)
 
 judge-zones-requires : tie.Need-judge-zones-requires
 judge-zones-requires c κs = search needs
@@ -35,9 +35,9 @@ returns-2 c =
 returns-3 : tie.Need-returns-3
 returns-3 c =
     let a = c .before .before .before .before .before .before .before .args in
-    let none-bad = sym (c .before .before .before .before .before .zone-checks .ensures) ∙ c .before .before .before .enum-told .given .1 in
+    let none-differs = sym (c .before .before .before .before .before .zone-checks .ensures) ∙ c .before .before .before .enum-told .given .1 in
     let x = c .before .before .cross-checks in
-    c .judge-zones .ensures ∙ cross-holds (a .g) (blocksOf (a .g) (a .map .now)) none-bad (x .result) (x .ensures) (c .before .if1 .left)
+    c .judge-zones .ensures ∙ cross-holds (a .g) (blocksOf (a .g) (a .map .now)) none-differs (x .result) (x .ensures) (c .before .if1 .left)
 
 pub check-blocks-spec : {M : Type 1} → statement M
 check-blocks-spec =

@@ -1,5 +1,5 @@
--- The laws of `Judging`.
-use Rattle.model.proofs.Judging.{answer-is-judged, judged-is-answer, accepted-keeps-rules, rules-accepted}
+-- The laws of MapJudged.
+use Rattle.model.proofs.MapJudged.{answer-is-judged, judged-is-answer, accepted-keeps-rules, rules-accepted}
 use Rattle.model.proofs.check_is_table.Statement.{statement}
 use Rattle.model.proofs.check_is_table.Tie as tie
 use Rattle.model.proofs.check_is_table.Reads as reads

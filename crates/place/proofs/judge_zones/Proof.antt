@@ -2,7 +2,6 @@
 -- is left of the zones.
 use borrow.Author.Needs.{needs}
 use Rattle.place.proofs.ZonesJudged.{part-touches, zone-asks, zone-verdict, judged-turn, judged-ends, count-turn}
-use Rattle.place.specs.Asked.{piecesOn}
 use Rattle.place.specs.Parts.{Walking}
 use Rattle.calls.specs.Judge.{pairsFrom}
 use Rattle.calls.specs.Holes.{allApart}
@@ -18,11 +17,12 @@ use Prim.Native.Nat.{ℕ, _-_, _≤_}
 use native.Mathlib.Omega.{arith}
 use Rattle.place.proofs.judge_zones.Statement.{statement}
 use Rattle.place.proofs.judge_zones.Tie as tie
+use Rattle.runs.specs.Editable.{piecesOn}
 
 abbrev Inv-loop : tie.InvT-loop
 Inv-loop map g start late list zones size fits₀ touched₀ i₀ z₀ fits touched i z =
     (z ≤ g .zones) × (touched ≤ z)
-    × ((id : ℕ) → fits && allApart g z (g .zones - z) (give id (pairsFrom list) (piecesOn map g)) ≡ allApart g 0 (g .zones) (give id (pairsFrom list) (piecesOn map g)))
+    × ((id : ℕ) → fits && allApart g z (g .zones - z) (give id (pairsFrom list) (piecesOn g map)) ≡ allApart g 0 (g .zones) (give id (pairsFrom list) (piecesOn g map)))
     × (touched ≡ touchedCount (touchedFrom g (pairsFrom list) 0 z)) × Walking g list start z i
 
 abbrev μ-loop : tie.MeasureT-loop
@@ -32,7 +32,7 @@ loop-holds : tie.Need-loop-holds Inv-loop μ-loop
 loop-holds c =
     let s = c .before .before in
     let a = s .args in
-    (omega arith, omega arith, λ id. ap (λ (n : ℕ). allApart (a .g) 0 n (give id (pairsFrom (a .list .now)) (piecesOn (a .map .now) (a .g)))) (sub-zero (a .g .zones)), refl, s .pre .1)
+    (omega arith, omega arith, λ id. ap (λ (n : ℕ). allApart (a .g) 0 n (give id (pairsFrom (a .list .now)) (piecesOn (a .g) (a .map .now)))) (sub-zero (a .g .zones)), refl, s .pre .1)
 
 mul-a : tie.Need-mul-a Inv-loop μ-loop
 mul-a c =
@@ -109,7 +109,7 @@ loop-again c =
     let h = n .before .loop-test .taken in
     let part = n .next-part .ensures .0 in
     let qs = pairsFrom (a .list .now) in
-    let l : ℕ → List Piece = λ id. give id qs (piecesOn (a .map .now) (a .g)) in (
+    let l : ℕ → List Piece = λ id. give id qs (piecesOn (a .g) (a .map .now)) in (
       omega (arith, h),
       omega (arith, p .loop .inv .1, c .touches .ensures .1),
       (λ id. judged-turn (a .g) (l id) (p .loop .z) (p .loop .fits) (f .zone-fits .result) (b .both .result) (allApart (a .g) 0 (a .g .zones) (l id)) h (p .loop .inv .2 id) (zone-verdict (s .pre .0) h part id ∙ sym (f .zone-fits .ensures id)) (b .both .ensures)),
@@ -123,7 +123,7 @@ returns c =
     let s = p .before .before .before in
     let a = s .args in
     let qs = pairsFrom (a .list .now) in
-    let l : ℕ → List Piece = λ id. give id qs (piecesOn (a .map .now) (a .g)) in
+    let l : ℕ → List Piece = λ id. give id qs (piecesOn (a .g) (a .map .now)) in
     let e : p .loop .z ≡ a .g .zones = omega (arith, p .loop .inv .0, c .loop-test .left) in (
       (λ id. judged-ends (a .g) (l id) (p .loop .z) (p .loop .fits) (allApart (a .g) 0 (a .g .zones) (l id)) (c .loop-test .left) (p .loop .inv .2 id)),
       p .loop .inv .3 ∙ ap (λ (z : ℕ). touchedCount (touchedFrom (a .g) qs 0 z)) e,

@@ -1,7 +1,7 @@
 -- The pairs from entry i on fit from place `from` on exactly where all pairs fit. The measure is what is left of the list.
 use borrow.Author.Needs.{needs}
 use Rattle.place.proofs.ListJudged.{empty-list, odd-list, even-list, fits-ends, bad-pair, bad-order, fits-goes-on}
-use Rattle.place.specs.Parts.{pair, fitsFrom}
+use Rattle.place.specs.Parts.{fitsFrom}
 use Rattle.calls.proofs.Invariant.{pair-rule}
 use Rattle.calls.specs.Judge.{pairsFrom}
 use borrow.Author.Tests.{not-true, not-false}
@@ -11,6 +11,7 @@ use Prim.Native.Nat.{_+_, _-_, _%_, _≤_}
 use native.Mathlib.Omega.{arith}
 use Rattle.place.proofs.list_fits.Statement.{statement}
 use Rattle.place.proofs.list_fits.Tie as tie
+use Rattle.model.specs.Chain.{pair}
 
 abbrev Inv-loop : tie.InvT-loop
 Inv-loop g start list n from₀ i₀ from i = (fitsFrom g start from (pairsFrom (drop i list)) ≡ fitsFrom g start 0 (pairsFrom list)) × (i % 2 ≡ 0) × (i ≤ length list)

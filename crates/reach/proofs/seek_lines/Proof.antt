@@ -4,7 +4,7 @@ use mathlib.Core.Path.{_≡_, refl}
 use lib.Dec.{eqb}
 use lib.ListN.{getD, take}
 use Rattle.listing.proofs.Lines.{linesFrom, lines-turn, lines-end}
-use Rattle.listing.specs.Held.{pairsIn}
+use Rattle.listing.specs.HeldBy.{pairsIn}
 use Rattle.reach.specs.Address.{seek}
 use Rattle.reach.specs.Parts.{wantedPair}
 use Rattle.reach.proofs.SeekOn.{seek-ends, seek-found, seek-turn}

@@ -2,7 +2,7 @@
 use Prim.Native.Nat.{ℕ, _-_}
 use mathlib.Core.Path.{ap, _∙_}
 use native.Mathlib.Nat.{sub-zero}
-use Rattle.listing.specs.Held.{heldFrom}
+use Rattle.listing.specs.HeldBy.{heldFrom}
 use Rattle.reach.specs.Address.{seek}
 use Rattle.reach.specs.Parts.{seekOf}
 use Rattle.reach.proofs.AddressAnswers.{in-late, in-early, past-both}

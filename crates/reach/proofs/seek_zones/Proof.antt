@@ -4,7 +4,7 @@ use mathlib.Core.Path.{_≡_, refl}
 use native.Mathlib.Omega.{arith}
 use Rattle.model.proofs.ByPlace.{zone-end}
 use Rattle.listing.proofs.HeldZones.{held-turn, held-end, zone-reads}
-use Rattle.listing.specs.Held.{heldIn, heldFrom}
+use Rattle.listing.specs.HeldBy.{heldIn, heldFrom}
 use Rattle.reach.specs.Address.{seek}
 use Rattle.reach.proofs.SeekOn.{seek-ends, seek-found, seek-turn}
 use borrow.Author.Needs.{needs}

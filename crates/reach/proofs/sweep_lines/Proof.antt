@@ -5,7 +5,7 @@ use native.Mathlib.Omega.{arith}
 use lib.Dec.{eqb}
 use lib.ListN.{length, getD, take}
 use Rattle.listing.proofs.Lines.{linesFrom, lines-turn, lines-end}
-use Rattle.listing.specs.Held.{pairsIn}
+use Rattle.listing.specs.HeldBy.{pairsIn}
 use Rattle.reach.specs.Parts.{wantedPair}
 use Rattle.reach.proofs.Bounds.{bytes-small}
 use Rattle.reach.proofs.OnePair.{wanted-most}

@@ -9,7 +9,7 @@ use Rattle.geometry.specs.Places.{discBits}
 use Rattle.model.proofs.ByPlace.{zone-end}
 use Rattle.listing.proofs.Ascend.{map-apart}
 use Rattle.listing.proofs.HeldZones.{held-turn, held-end, zone-reads}
-use Rattle.listing.specs.Held.{heldIn, heldFrom}
+use Rattle.listing.specs.HeldBy.{heldIn, heldFrom}
 use Rattle.reach.proofs.ApartCounts.{counts-fit}
 use Rattle.reach.proofs.Bounds.{size-small}
 use Rattle.reach.proofs.SweptOn.{SweptSoFar, swept-starts, next-inside, swept-turn, swept-ends}

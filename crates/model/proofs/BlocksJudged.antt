@@ -1,28 +1,25 @@
--- The whole check: its answer is the line of the table that applies, and each line that applies is its answer. Zone checks
--- and zones are passed in turn, with what holds of the zones passed kept by; the first that fails is the lowest.
-use mathlib.Core.Path.{_≡_, refl, sym, ap, ap₂, _∙_, subst, subst⁻¹}
-use mathlib.Core.Bool.{Bool, true, false, cond, _&&_, false≢true, true≢false}
-use mathlib.Core.List.{List, [], _∷_, map}
+-- The blocks of a map whose record and length are right, judged: zone checks, cross checks and zones are passed in turn, with
+-- what holds of the zones passed kept by; the first that fails is the lowest.
+use mathlib.Core.Path.{_≡_, refl, ap, ap₂, subst, subst⁻¹}
+use mathlib.Core.Bool.{Bool, true, false, cond}
+use mathlib.Core.List.{List, [], _∷_}
 use mathlib.Core.Option.{Option, none, some}
-use Prim.Native.Nat.{ℕ, zero, suc, _+_, _-_, _*_, _<_, _≤_}
+use Prim.Native.Nat.{ℕ, zero, suc, _+_, _-_, _<_}
 use native.Mathlib.Omega.{arith}
-use lib.Dec.{eqb, ltb, leb}
+use lib.Dec.{eqb, ltb}
 use lib.ListN.{length, getD}
-use borrow.Author.Tests.{eqb-true, eqb-false, eq-eqb, ne-eqb, lt-ltb, le-ltb, ltb-true, ltb-false}
+use borrow.Author.Tests.{eqb-true, eqb-false, eq-eqb, ne-eqb, ltb-true, ltb-false}
 use Rattle.bits.proofs.Tests.{by-test}
 use Rattle.checks.specs.Words.{zoneCheck}
 use Rattle.geometry.specs.declared.Geometry.{Geometry}
 use Rattle.geometry.specs.Record.{discRecord, geometryOf}
-use Rattle.geometry.specs.Ranges.{RecordRules, recordFits}
 use Rattle.geometry.specs.Accepted.{AcceptedGeometry}
-use Rattle.geometry.proofs.Rules.{test-gives-rules, rules-give-test}
 use Rattle.geometry.proofs.Numbers.{accepted}
 use Rattle.model.specs.Chain.{Entry}
-use Rattle.model.specs.Rules.{ZoneRules, CheckRule, CrossRule, zoneBlock, MapRules}
-use Rattle.model.specs.Verdict.{ZoneRead, bad, good, MapRead, entries, joinZone, zoneRead, zonesRead, badCheck, crossSum, afterChecks, blocksRead, blocksOf, lengthFits, mapRead}
+use Rattle.model.specs.Rules.{ZoneRules, CheckRule, CrossRule, zoneBlock}
+use Rattle.model.specs.Verdict.{ZoneRead, sound, MapRead, entries, joinZone, zoneRead, zonesRead, differing, crossSum, afterChecks, blocksRead, blocksOf}
 use Rattle.model.specs.Verdict as read
-use Rattle.model.specs.Table.{Judgement, judgementOf, ZoneFault, Measured, CheckedBelow, RuledBelow, Judged, short, outside, other-length, check-differs, cross-differs, zone-fault, kept}
-use Rattle.model.specs.Table as table
+use Rattle.model.specs.Table.{judgementOf, ZoneFault, Measured, CheckedBelow, RuledBelow, Judged, check-differs, cross-differs, zone-fault, kept}
 use Rattle.model.proofs.ByPlace.{restFrom, rest-all, rest-none, rest-cons}
 use Rattle.model.proofs.Zones.{ZoneSays, zone-says, no-fault, one-fault}
 use Rattle.model.proofs.Zones as zones
@@ -63,33 +60,33 @@ module _ (m : List ℕ) (ms : Measured m) where
     all-right : CheckedBelow m ((geometryOf m) .zones) → ChecksSay none
     one-wrong : (z : ℕ) → z < (geometryOf m) .zones → CheckedBelow m z → (Right z → ⊥) → ChecksSay (some z)
 
-  checks-from : (k z : ℕ) → z + k ≡ (geometryOf m) .zones → CheckedBelow m z → ChecksSay (badCheck z (rest z))
+  checks-from : (k z : ℕ) → z + k ≡ (geometryOf m) .zones → CheckedBelow m z → ChecksSay (differing z (rest z))
   checks-from zero z e b =
-      subst⁻¹ (λ (l : List (List ℕ)). ChecksSay (badCheck z l)) (rest-none m (g .zones) (g .sector) z (omega arith))
+      subst⁻¹ (λ (l : List (List ℕ)). ChecksSay (differing z l)) (rest-none m (g .zones) (g .sector) z (omega arith))
       (all-right (λ i h. b i (omega arith)))
   checks-from (suc k) z e b =
-      subst⁻¹ (λ (l : List (List ℕ)). ChecksSay (badCheck z l)) (rest-cons m (g .zones) (g .sector) z (omega arith))
+      subst⁻¹ (λ (l : List (List ℕ)). ChecksSay (differing z l)) (rest-cons m (g .zones) (g .sector) z (omega arith))
       (by-test (eqb (getD (zoneBlock g m z) 0 0) (zoneCheck (zoneBlock g m z)))
-      (λ t. simp t (subst⁻¹ (λ (i : ℕ). ChecksSay (badCheck i (rest (z + 1)))) add-one (checks-from k (z + 1) (omega arith) (more-below Right z b (eqb-true _ _ t)))))
+      (λ t. simp t (subst⁻¹ (λ (i : ℕ). ChecksSay (differing i (rest (z + 1)))) add-one (checks-from k (z + 1) (omega arith) (more-below Right z b (eqb-true _ _ t)))))
       (λ t. simp t (one-wrong z (omega arith) b (eqb-false _ _ t))))
     where
       add-one : suc z ≡ z + 1
       add-one = omega arith
 
-  checks-say : ChecksSay (badCheck 0 (blocksOf (geometryOf m) m))
+  checks-say : ChecksSay (differing 0 (blocksOf (geometryOf m) m))
   checks-say =
-      subst (λ (l : List (List ℕ)). ChecksSay (badCheck 0 l)) (rest-all m (g .zones) (g .sector))
+      subst (λ (l : List (List ℕ)). ChecksSay (differing 0 l)) (rest-all m (g .zones) (g .sector))
       (checks-from (g .zones) 0 (omega arith) (λ i h. absurd (omega arith)))
 
-  checks-none : CheckedBelow m ((geometryOf m) .zones) → badCheck 0 (blocksOf (geometryOf m) m) ≡ none
-  checks-none b = go (badCheck 0 (blocksOf (geometryOf m) m)) checks-say
+  checks-none : CheckedBelow m ((geometryOf m) .zones) → differing 0 (blocksOf (geometryOf m) m) ≡ none
+  checks-none b = go (differing 0 (blocksOf (geometryOf m) m)) checks-say
     where
       go : (r : Option ℕ) → ChecksSay r → r ≡ none
       go r (all-right w) = refl
       go r (one-wrong z h w n) = absurd (n (b z h))
 
-  checks-first : (z : ℕ) → z < (geometryOf m) .zones → CheckedBelow m z → (Right z → ⊥) → badCheck 0 (blocksOf (geometryOf m) m) ≡ some z
-  checks-first z h b n = go (badCheck 0 (blocksOf (geometryOf m) m)) checks-say
+  checks-first : (z : ℕ) → z < (geometryOf m) .zones → CheckedBelow m z → (Right z → ⊥) → differing 0 (blocksOf (geometryOf m) m) ≡ some z
+  checks-first z h b n = go (differing 0 (blocksOf (geometryOf m) m)) checks-say
     where
       go : (r : Option ℕ) → ChecksSay r → r ≡ some z
       go r (all-right w) = absurd (n (w z h))
@@ -100,9 +97,9 @@ module _ (m : List ℕ) (ms : Measured m) where
     all-ruled : (ess : List (List Entry)) → RuledBelow m ((geometryOf m) .zones) → ZonesSay (entries ess)
     one-broken : (n z : ℕ) → z < (geometryOf m) .zones → RuledBelow m z → ZoneFault (geometryOf m) z (zoneBlock (geometryOf m) m z) n → ZonesSay (read.refused n z)
 
-  join-good : (z : ℕ) (es : List Entry) (r : MapRead) → ZonesSay r → ZonesSay (joinZone z (good es) r)
-  join-good z es r (all-ruled ess w) = all-ruled (es ∷ ess) w
-  join-good z es r (one-broken n y h w f) = one-broken n y h w f
+  join-sound : (z : ℕ) (es : List Entry) (r : MapRead) → ZonesSay r → ZonesSay (joinZone z (sound es) r)
+  join-sound z es r (all-ruled ess w) = all-ruled (es ∷ ess) w
+  join-sound z es r (one-broken n y h w f) = one-broken n y h w f
 
   zones-from : (k z : ℕ) → z + k ≡ (geometryOf m) .zones → RuledBelow m z → ZonesSay (zonesRead (geometryOf m) z (rest z))
   zones-from zero z e b =
@@ -116,7 +113,7 @@ module _ (m : List ℕ) (ms : Measured m) where
       add-one = omega arith
 
       go : (r : ZoneRead) → ZoneSays g z (zoneBlock g m z) r → (Ruled z → ZonesSay (zonesRead g (z + 1) (rest (z + 1)))) → ZonesSay (joinZone z r (zonesRead g (suc z) (rest (z + 1))))
-      go r (zones.kept es w) ih = join-good z es (zonesRead g (suc z) (rest (z + 1))) (subst⁻¹ (λ (i : ℕ). ZonesSay (zonesRead g i (rest (z + 1)))) add-one (ih w))
+      go r (zones.kept es w) ih = join-sound z es (zonesRead g (suc z) (rest (z + 1))) (subst⁻¹ (λ (i : ℕ). ZonesSay (zonesRead g i (rest (z + 1)))) add-one (ih w))
       go r (zones.broken n f) ih = one-broken n z (omega arith) b f
 
   zones-say : ZonesSay (zonesRead (geometryOf m) 0 (blocksOf (geometryOf m) m))
@@ -127,7 +124,7 @@ module _ (m : List ℕ) (ms : Measured m) where
   fault-not-ruled : (z n : ℕ) → ZoneFault (geometryOf m) z (zoneBlock (geometryOf m) m z) n → Ruled z → ⊥
   fault-not-ruled z n f w = no-fault g ok z (zoneBlock g m z) n w f
 
-  zones-first : (z n : ℕ) → z < (geometryOf m) .zones → RuledBelow m z → ZoneFault (geometryOf m) z (zoneBlock (geometryOf m) m z) n
+  pub zones-first : (z n : ℕ) → z < (geometryOf m) .zones → RuledBelow m z → ZoneFault (geometryOf m) z (zoneBlock (geometryOf m) m z) n
       → zonesRead (geometryOf m) 0 (blocksOf (geometryOf m) m) ≡ read.refused n z
   zones-first z n h b f = go (zonesRead g 0 (blocksOf g m)) zones-say
     where
@@ -138,7 +135,7 @@ module _ (m : List ℕ) (ms : Measured m) where
           let o2 = subst (λ (x : ℕ). ZoneFault (geometryOf m) x (zoneBlock (geometryOf m) m x) k) e o in
           ap₂ read.refused (one-fault g ok z (zoneBlock g m z) k n o2 f) e
 
-  zones-all : RuledBelow m ((geometryOf m) .zones) → (ess : List (List Entry)) × (zonesRead (geometryOf m) 0 (blocksOf (geometryOf m) m) ≡ entries ess)
+  pub zones-all : RuledBelow m ((geometryOf m) .zones) → (ess : List (List Entry)) × (zonesRead (geometryOf m) 0 (blocksOf (geometryOf m) m) ≡ entries ess)
   zones-all b = go (zonesRead g 0 (blocksOf g m)) zones-say
     where
       go : (r : MapRead) → ZonesSay r → (ess : List (List Entry)) × (r ≡ entries ess)
@@ -165,7 +162,7 @@ module _ (m : List ℕ) (ms : Measured m) where
   from-checks r (one-wrong z h b n) = check-differs ms z h b n
 
   pub measured-judged : Judged m (judgementOf (blocksRead (geometryOf m) (blocksOf (geometryOf m) m)))
-  measured-judged = from-checks (badCheck 0 (blocksOf g m)) checks-say
+  measured-judged = from-checks (differing 0 (blocksOf g m)) checks-say
 
   -- and back
   pub at-check : (z : ℕ) → z < (geometryOf m) .zones → CheckedBelow m z → (Right z → ⊥) → blocksRead (geometryOf m) (blocksOf (geometryOf m) m) ≡ read.refused 3 z
@@ -176,52 +173,3 @@ module _ (m : List ℕ) (ms : Measured m) where
 
   pub at-zones : CheckedBelow m ((geometryOf m) .zones) → CrossRule (blocksOf (geometryOf m) m) → blocksRead (geometryOf m) (blocksOf (geometryOf m) m) ≡ zonesRead (geometryOf m) 0 (blocksOf (geometryOf m) m)
   at-zones c x = rw (checks-none c, eq-eqb (crossSum (blocksOf g m)) 255 x)
-
--- the record and the length first
-module _ (m : List ℕ) where
-  rules-test : RecordRules (discRecord m) → recordFits (discRecord m) ≡ true
-  rules-test r = rules-give-test (discRecord m) r
-
-  no-rules : (RecordRules (discRecord m) → ⊥) → recordFits (discRecord m) ≡ false
-  no-rules n = by-test (recordFits (discRecord m)) (λ t. absurd (n (test-gives-rules (discRecord m) t))) (λ t. t)
-
-  measured-read : Measured m → mapRead m ≡ blocksRead (geometryOf m) (blocksOf (geometryOf m) m)
-  measured-read ms = rw (le-ltb (length m) 64 (ms .long), rules-test (ms .record-rules), eq-eqb (length m) ((geometryOf m) .zones * (geometryOf m) .sector) (ms .whole))
-
-  pub answer-is-judged : Judged m (judgementOf (mapRead m))
-  answer-is-judged =
-      by-test (ltb (length m) 64)
-      (λ t. simp t (short (ltb-true (length m) 64 t)))
-      (λ t. by-test (recordFits (discRecord m))
-      (λ u. by-test (lengthFits (geometryOf m) m)
-      (λ v. let ms : Measured m = record { long = ltb-false (length m) 64 t; record-rules = test-gives-rules (discRecord m) u; whole = eqb-true (length m) ((geometryOf m) .zones * (geometryOf m) .sector) v } in
-      subst⁻¹ (λ (r : MapRead). Judged m (judgementOf r)) (measured-read ms) (measured-judged m ms))
-      (λ v. simp (t, u, v) (other-length (ltb-false (length m) 64 t) (test-gives-rules (discRecord m) u) (eqb-false (length m) ((geometryOf m) .zones * (geometryOf m) .sector) v))))
-      (λ u. simp (t, u) (outside (ltb-false (length m) 64 t) (λ r. false≢true (sym u ∙ rules-test r)))))
-
-  pub judged-is-answer : (r : Judgement) → Judged m r → judgementOf (mapRead m) ≡ r
-  judged-is-answer r (short h) = rw (lt-ltb (length m) 64 h)
-  judged-is-answer r (outside h n) = rw (le-ltb (length m) 64 h, no-rules n)
-  judged-is-answer r (other-length h w n) = rw (le-ltb (length m) 64 h, rules-test w, ne-eqb (length m) ((geometryOf m) .zones * (geometryOf m) .sector) n)
-  judged-is-answer r (check-differs ms z h b n) = ap judgementOf (measured-read ms ∙ at-check m ms z h b n)
-  judged-is-answer r (cross-differs ms c n) = ap judgementOf (measured-read ms ∙ at-cross m ms c n)
-  judged-is-answer r (zone-fault ms c x z n h b f) = ap judgementOf (measured-read ms ∙ at-zones m ms c x ∙ zones-first m ms z n h b f)
-  judged-is-answer r (kept w) =
-      let ms : Measured m = record { long = w .long; record-rules = w .record-rules; whole = w .whole } in
-      let a = zones-all m ms (w .zones) in
-      ap judgementOf (measured-read ms ∙ at-zones m ms (w .checks) (w .cross) ∙ a .1)
-
-  pub accepted-keeps-rules : judgementOf (mapRead m) ≡ table.accepted → MapRules m
-  accepted-keeps-rules e = go (judgementOf (mapRead m)) answer-is-judged e
-    where
-      go : (r : Judgement) → Judged m r → r ≡ table.accepted → MapRules m
-      go r (kept w) e = w
-      go r (short h) e = let x : _≡_ {A = ℕ} 0 1 = cc in absurd (omega arith)
-      go r (outside h n) e = let x : _≡_ {A = ℕ} 0 1 = cc in absurd (omega arith)
-      go r (other-length h w n) e = let x : _≡_ {A = ℕ} 0 1 = cc in absurd (omega arith)
-      go r (check-differs ms z h b n) e = let x : _≡_ {A = ℕ} 0 1 = cc in absurd (omega arith)
-      go r (cross-differs ms c n) e = let x : _≡_ {A = ℕ} 0 1 = cc in absurd (omega arith)
-      go r (zone-fault ms c y z n h b f) e = let x : _≡_ {A = ℕ} 0 1 = cc in absurd (omega arith)
-
-  pub rules-accepted : MapRules m → judgementOf (mapRead m) ≡ table.accepted
-  rules-accepted w = judged-is-answer table.accepted (kept w)

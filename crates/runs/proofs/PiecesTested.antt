@@ -1,9 +1,8 @@
--- The tests that an accepted zone passed, and what they say of its owned pieces: the owner rules by disc bits, the lengths,
--- and that the pieces lie apart.
-use mathlib.Core.Path.{_≡_, refl, ap, subst}
+-- What the tests that an accepted zone passed say of its owned pieces: the owner rules by disc bits, the lengths, and that the
+-- pieces lie apart.
+use mathlib.Core.Path.{_≡_}
 use mathlib.Core.Bool.{true, _&&_, _||_, false≢true}
 use mathlib.Core.List.{List, [], _∷_, map}
-use mathlib.Core.Option.{Option, none, some}
 use mathlib.Core.Logic.{_⊎_, inl, inr}
 use Prim.Native.Nat.{ℕ, _+_, _-_, _*_, _%_, _≤_}
 use native.Mathlib.Omega.{arith}
@@ -12,54 +11,18 @@ use borrow.Author.Tests.{eqb-true, eq-eqb, ltb-true, ltb-false, leb-true, le-leb
 use Rattle.bits.proofs.Tests.{by-test, both, and-true, either, or-left, or-right}
 use Rattle.geometry.specs.declared.Geometry.{Geometry}
 use Rattle.geometry.specs.Accepted.{AcceptedGeometry}
-use Rattle.geometry.specs.Places.{firstBit, endBit, discBit, idFrom}
-use Rattle.model.specs.Fragments.{Fragment, Formed, fragmentsIn}
-use Rattle.model.specs.Chain.{Entry, onward, follow}
-use Rattle.model.specs.Blocks.{freeLink, linkIn, allocBits}
+use Rattle.geometry.specs.Places.{discBit, idFrom}
+use Rattle.model.specs.Fragments.{Fragment, Formed}
+use Rattle.model.specs.Chain.{Entry}
 use Rattle.model.specs.Pieces.{Piece, pieceToDisc}
 use Rattle.model.specs.Drawing.{gap, drawnFragments, gapEntry, drawnEntries}
-use Rattle.model.specs.Verdict.{bad, good, every, inClusters, idFits, endFits, firstOwned, ownersFit, afterFollow, afterCut, zoneRead}
+use Rattle.model.specs.Verdict.{every, inClusters, idFits, endFits, firstOwned}
 use Rattle.model.proofs.ChainDrawn.{Lies}
 use Rattle.calls.specs.Holes.{gapFits, apart}
 use Rattle.calls.proofs.Kept.{All}
 use Rattle.calls.proofs.Gaps.{Gap, gap-of-test, test-of-gap, isLong}
 use Rattle.runs.proofs.Clusters.{shortest-least}
 use Rattle.runs.proofs.ObjectRules.{gapEndsBy, oneFromEnd, twoFirst, ends-by}
-
--- the tests, in their order
-pub record ZoneTests (g : Geometry) (z : ℕ) (b : List ℕ) (es : List Entry) : Type 0 where
-  pub fragments : List Fragment
-  pub cut : fragmentsIn (g .idlen) (allocBits (firstBit z) (endBit g) b) ≡ some fragments
-  pub clusters : inClusters (g .cluster) fragments ≡ true
-  pub top-bit : 32768 ≤ freeLink b
-  pub chain : follow (firstBit z) (onward 8 (linkIn b)) fragments ≡ some es
-  pub owners : ownersFit g z es ≡ true
-
-bad-good : {n : ℕ} {es : List Entry} → bad n ≡ good es → ⊥
-bad-good e = let z : _≡_ {A = ℕ} 0 1 = cc in omega arith
-
-good-good : {ds es : List Entry} → good ds ≡ good es → ds ≡ es
-good-good e = cc
-
-after-follow : (g : Geometry) (z : ℕ) (r : Option (List Entry)) (es : List Entry) → afterFollow g z r ≡ good es → (r ≡ some es) × (ownersFit g z es ≡ true)
-after-follow g z none es e = absurd (bad-good e)
-after-follow g z (some ds) es e =
-    by-test (ownersFit g z ds)
-    (λ t. let k : ds ≡ es = good-good (simp t at e) in (ap some k, subst (λ (x : List Entry). ownersFit g z x ≡ true) k t))
-    (λ t. absurd (bad-good (simp t at e)))
-
-pub zone-tests : (g : Geometry) (z : ℕ) (b : List ℕ) (es : List Entry) → zoneRead g z b ≡ good es → ZoneTests g z b es
-zone-tests g z b es e = go (fragmentsIn (g .idlen) (allocBits (firstBit z) (endBit g) b)) refl e
-  where
-    go : (r : Option (List Fragment)) → fragmentsIn (g .idlen) (allocBits (firstBit z) (endBit g) b) ≡ r → afterCut g z b r ≡ good es → ZoneTests g z b es
-    go none k e = absurd (bad-good e)
-    go (some fs) k e =
-        by-test (inClusters (g .cluster) fs)
-        (λ t. by-test (leb 32768 (freeLink b))
-        (λ u. let p = after-follow g z (follow (firstBit z) (onward 8 (linkIn b)) fs) es (simp (t, u) at e) in
-        record { fragments = fs; cut = k; clusters = t; top-bit = leb-true 32768 (freeLink b) u; chain = p .0; owners = p .1 })
-        (λ u. absurd (bad-good (simp (t, u) at e))))
-        (λ t. absurd (bad-good (simp t at e)))
 
 -- the id rule
 ids-gap : (g : Geometry) (a e : ℕ) (es : List Entry) → every (idFits g) (gapEntry a e es) ≡ true → every (idFits g) es ≡ true
