@@ -4,7 +4,7 @@ use mathlib.Core.Path.{_≡_, refl, sym, ap, _∙_}
 use mathlib.Core.Bool.{Bool, true, _&&_}
 use mathlib.Core.List.{List, [], _∷_, map}
 use mathlib.Core.Logic.{inl}
-use Prim.Native.Nat.{ℕ, _+_, _-_, _*_, _/_, _<_, _≤_}
+use Prim.Native.Nat.{ℕ, _+_, _-_, _*_, _/_, _%_, _<_, _≤_}
 use native.Mathlib.Nat.{div-lt-iff-lt-mul}
 use native.Mathlib.Omega.{arith}
 use lib.Dec.{eqb, ltb, leb}
@@ -93,18 +93,28 @@ in-zone g z d lo hi =
     ap (λ (x : ℕ). x / g .bits) e ∙ digits-div z r
 
 -- what the test of a pair says
-pub record PairRule (g : Geometry) (q : Pair) : Type 0 where
+pub record PairTested (g : Geometry) (q : Pair) : Type 0 where
   pub long : leb (g .shortest) (q .len) ≡ true
   pub size : g .shortest ≤ q .len
+  pub start-clusters : q .start % g .cluster ≡ 0
+  pub length-clusters : q .len % g .cluster ≡ 0
   pub below : q .start + q .len ≤ discBits g
   pub in-zone-end : q .start + q .len ≤ zoneEnd g (zoneOf g (q .start))
 
-pub pair-rule : (g : Geometry) (q : Pair) → pairFits g q ≡ true → PairRule g q
-pair-rule g q h =
+pub pair-tested : (g : Geometry) (q : Pair) → pairFits g q ≡ true → PairTested g q
+pair-tested g q h =
     let a = both _ _ h in
     let b = both _ _ (a .0) in
     let c = both _ _ (a .1) in
-    record { long = b .0; size = leb-true (g .shortest) (q .len) (b .0); below = leb-true _ _ (c .0); in-zone-end = leb-true _ _ (c .1) }
+    let k = both _ _ (b .1) in
+    record {
+      long = b .0;
+      size = leb-true (g .shortest) (q .len) (b .0);
+      start-clusters = eqb-true _ _ (k .0);
+      length-clusters = eqb-true _ _ (k .1);
+      below = leb-true _ _ (c .0);
+      in-zone-end = leb-true _ _ (c .1);
+    }
 
 pub order-weaken : (t : Piece → Bool) (n : ℕ) {f g : ℕ} (l : List Piece) → f ≤ g → InOrder t n g l → InOrder t n f l
 order-weaken t n [] h o = tt
@@ -117,7 +127,7 @@ list-order g id from (q ∷ qs) f h =
     let r = rank (late g id) (discBits g) (own id q) in
     let a = both (pairFits g q && leb from r) (pairsFit g id (r + q .len) qs) h in
     let b = both (pairFits g q) (leb from r) (a .0) in
-    let k = pair-rule g q (b .0) in (
+    let k = pair-tested g q (b .0) in (
       omega arith,
       leb-true from r (b .1),
       order-weaken (late g id) (discBits g) (map (own id) qs) (omega arith) (list-order g id (r + q .len) qs f (a .1)),
@@ -128,14 +138,14 @@ list-long g id from [] h = tt
 list-long g id from (q ∷ qs) h =
     let a = both _ _ h in
     let b = both _ _ (a .0) in
-    ((pair-rule g q (b .0)) .long, list-long g id _ qs (a .1))
+    ((pair-tested g q (b .0)) .long, list-long g id _ qs (a .1))
 
 pub list-zoned : (g : Geometry) (id from : ℕ) (qs : List Pair) → AcceptedGeometry g → pairsFit g id from qs ≡ true → All (λ p. ltb (zoneOf g (p .at .start)) (g .zones)) (map (own id) qs)
 list-zoned g id from [] f h = tt
 list-zoned g id from (q ∷ qs) f h =
     let a = both _ _ h in
     let b = both _ _ (a .0) in
-    let k = pair-rule g q (b .0) in
+    let k = pair-tested g q (b .0) in
     (lt-ltb _ _ (on-disc g (q .start) f (omega arith)), list-zoned g id _ qs f (a .1))
 
 pub all-named : (g : Geometry) (id : ℕ) (qs : List Pair) → ltb id (g .ids * g .zones) ≡ true → All (λ p. ltb (p .owner) (g .ids * g .zones)) (map (own id) qs)

@@ -12,6 +12,7 @@ pub mod RunsKept
 pub mod ReadsAfter
 pub mod Sharing
 pub mod Thirteen
+pub mod Twelve
 pub mod Fourteen
 pub mod CrossKey
 pub mod SamePieces

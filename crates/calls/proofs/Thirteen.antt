@@ -27,7 +27,7 @@ use Rattle.calls.proofs.Entries.{all-in, in-keep, in-kept, in-map, map-
 use Rattle.calls.proofs.ByPlace.{keep-put-by-place}
 use Rattle.calls.proofs.Gaps.{isLong, all-apart-at}
 use Rattle.calls.proofs.HolesLeft.{apart-lies, apart-holes, lies-apart, apart-all}
-use Rattle.calls.proofs.Invariant.{FitPieces, some-bits, on-disc, in-zone, PairRule, pair-rule, list-long}
+use Rattle.calls.proofs.Invariant.{FitPieces, some-bits, on-disc, in-zone, PairTested, pair-tested, list-long}
 use Rattle.calls.proofs.Sharing.{lies-from, put-shares-none, Separate, separate-keep, lies-put}
 
 -- a pair that ends in its zone has all its bits there
@@ -35,7 +35,7 @@ pub bit-zone : (g : Geometry) (q : Pair) (d : ℕ) → q .start + q .len ≤ zon
 bit-zone g q d h w = in-zone g (zoneOf g (q .start)) d (omega (arith, div-mul-le-self (q .start + 480) (g .bits))) (omega arith)
 
 -- the listed pairs share no bit
-pub pairs-in : (g : Geometry) (id from : ℕ) (qs : List Pair) → pairsFit g id from qs ≡ true → (q : Pair) → In q qs → PairRule g q × (from ≤ rank (late g id) (discBits g) (own id q))
+pub pairs-in : (g : Geometry) (id from : ℕ) (qs : List Pair) → pairsFit g id from qs ≡ true → (q : Pair) → In q qs → PairTested g q × (from ≤ rank (late g id) (discBits g) (own id q))
 pairs-in g id from [] h q i = absurd i
 pairs-in g id from (x ∷ xs) h q i = go i (pairs-in g id (r + x .len) xs (a .1) q)
   where
@@ -48,11 +48,11 @@ pairs-in g id from (x ∷ xs) h q i = go i (pairs-in g id (r + x .len) xs (a .1)
     b : (pairFits g x ≡ true) × (leb from (rank (late g id) (discBits g) (own id x)) ≡ true)
     b = both (pairFits g x) (leb from (rank (late g id) (discBits g) (own id x))) (a .0)
 
-    go : In q (x ∷ xs) → (In q xs → PairRule g q × (rank (late g id) (discBits g) (own id x) + x .len ≤ rank (late g id) (discBits g) (own id q))) → PairRule g q × (from ≤ rank (late g id) (discBits g) (own id q))
-    go (inl e) ih = subst (λ (y : Pair). PairRule g y × (from ≤ rank (late g id) (discBits g) (own id y))) (sym e) (pair-rule g x (b .0), leb-true from r (b .1))
+    go : In q (x ∷ xs) → (In q xs → PairTested g q × (rank (late g id) (discBits g) (own id x) + x .len ≤ rank (late g id) (discBits g) (own id q))) → PairTested g q × (from ≤ rank (late g id) (discBits g) (own id q))
+    go (inl e) ih = subst (λ (y : Pair). PairTested g y × (from ≤ rank (late g id) (discBits g) (own id y))) (sym e) (pair-tested g x (b .0), leb-true from r (b .1))
     go (inr j) ih = let k = ih j in (k .0, omega (arith, k .1, leb-true from r (b .1)))
 
-pub in-order-separate : (g : Geometry) (id : ℕ) (q p : Pair) → PairRule g q → PairRule g p → rank (late g id) (discBits g) (own id q) + q .len ≤ rank (late g id) (discBits g) (own id p) → ShareNone q p
+pub in-order-separate : (g : Geometry) (id : ℕ) (q p : Pair) → PairTested g q → PairTested g p → rank (late g id) (discBits g) (own id q) + q .len ≤ rank (late g id) (discBits g) (own id p) → ShareNone q p
 in-order-separate g id q p a b h d i j =
     let e : zoneOf g (q .start) ≡ zoneOf g (p .start) = sym (bit-zone g q d (a .in-zone-end) i) ∙ bit-zone g p d (b .in-zone-end) j in
     let k : late g id (own id q) ≡ late g id (own id p) = ap (λ (z : ℕ). leb (startZone g id) z) e in
@@ -69,7 +69,7 @@ list-separate g id from (q ∷ qs) h =
       λ x i. (
           let m = in-map (own id) x qs i in
           let k = pairs-in g id (r + q .len) qs (a .1) (m .0) (m .1) in
-          subst (λ (y : Piece). ShareNone q (y .at)) (sym (m .2)) (in-order-separate g id q (m .0) (pair-rule g q (b .0)) (k .0) (k .1))
+          subst (λ (y : Piece). ShareNone q (y .at)) (sym (m .2)) (in-order-separate g id q (m .0) (pair-tested g q (b .0)) (k .0) (k .1))
           ),
       list-separate g id (r + q .len) qs (a .1),
     )

@@ -4,3 +4,4 @@ pub mod Holes
 pub mod Judge
 pub mod Runs
 pub mod Room
+pub mod ListRules

@@ -3,7 +3,7 @@
 use mathlib.Core.Path.{_≡_}
 use mathlib.Core.List.{List, [], _∷_}
 use mathlib.Core.Logic.{_⊎_}
-use Prim.Native.Nat.{ℕ, _+_, _<_, _≤_}
+use Prim.Native.Nat.{ℕ, _<_, _≤_}
 use Rattle.geometry.specs.declared.Geometry.{Geometry}
 use Rattle.geometry.specs.Places.{zoneFrom, zoneEnd}
 use Rattle.model.specs.Chain.{Pair, Within}
@@ -16,6 +16,11 @@ use Rattle.calls.specs.Judge.{pairsFrom}
 abbrev pub In : {A : Type 0} → A → List A → Type 0
 In h [] = ⊥
 In h (x ∷ xs) = (h ≡ x) ⊎ In h xs
+
+-- q stands before p in a list
+abbrev pub Earlier : Pair → Pair → List Pair → Type 0
+Earlier q p [] = ⊥
+Earlier q p (x ∷ xs) = ((q ≡ x) × In p xs) ⊎ Earlier q p xs
 
 -- no bit lies in both
 abbrev pub ShareNone : Pair → Pair → Type 0

@@ -9,7 +9,7 @@ ghost use lib.ListN.{length};
 ghost use Rattle.geometry.specs.Record.{clusterOf, roundUp, geometryFrom, zoneSpare, discSize};
 ghost use Rattle.geometry.specs.Ranges.{FieldRules, between, fieldsFit, geometryFits};
 ghost use Rattle.geometry.specs.Accepted.{SmallNumbers, AcceptedGeometry};
-ghost use Rattle.geometry.specs.Places.{firstBit, endBit, discBit, blockBit, zoneOf, discBits};
+ghost use Rattle.geometry.specs.Places.{firstBit, endBit, discBit, blockBit, zoneOf, discBits, idFrom};
 ghost use Rattle.geometry.specs.Answers.{recordOf, startOf};
 ghost use Rattle.geometry.specs.Laws.{GeometryLaws};
 
@@ -96,6 +96,14 @@ impl Geometry {
             return Start::Zone(self.zones / 2);
         }
         Start::Zone(n / self.ids)
+    }
+
+    // Whether an id lies from `low` to P*nzones - 1.
+    pub fn is_id(self, low: usize, id: usize) -> bool
+        requires { ⌜ AcceptedGeometry self ⌝ }
+        ensures { λ r. ⌜ r ≡ idFrom low self id ⌝ }
+    {
+        both(low <= id, id < self.ids * self.zones)
     }
 
     // The first allocation bit of zone z.

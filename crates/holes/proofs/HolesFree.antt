@@ -1,122 +1,23 @@
--- The holes between the pieces of each zone are the map's free fragments, where no two of these touch: such a zone is the
--- drawing of its pieces, in which each gap is one free fragment, and disc bits differ from block bits by the same number
--- throughout a zone.
-use mathlib.Core.Path.{_≡_, refl, sym, ap, ap₂, _∙_, subst⁻¹}
-use mathlib.Core.Bool.{false}
-use mathlib.Core.List.{List, [], _∷_, _++_, map}
+-- The holes between the pieces of each zone are the free fragments that the listing finds on the map.
+use mathlib.Core.Path.{_≡_, sym, ap, _∙_, subst⁻¹}
+use mathlib.Core.List.{List}
 use mathlib.Core.Option.{none}
-use Prim.Native.Nat.{ℕ, suc, _+_, _-_, _*_, _≤_}
-use native.Mathlib.Omega.{arith}
-use lib.Dec.{ltb, leb}
-use lib.ListN.{length}
-use borrow.Author.Tests.{ltb-true, ltb-false, lt-ltb, le-ltb, eqb-true, leb-true, le-leb}
-use Rattle.bits.proofs.Tests.{by-test}
+use Prim.Native.Nat.{ℕ}
 use Rattle.geometry.specs.declared.Geometry.{Geometry}
-use Rattle.geometry.specs.Accepted.{AcceptedGeometry}
-use Rattle.geometry.specs.Places.{firstBit, endBit, discBit, zoneFrom, zoneEnd}
-use Rattle.model.specs.Chain.{Pair, Entry, noneTouch}
-use Rattle.model.specs.Rules.{zoneBlock}
+use Rattle.model.specs.Chain.{Entry}
 use Rattle.model.specs.Verdict.{entries, mapRead}
-use Rattle.model.specs.Pieces.{Piece, ownedOf, toDisc, pieceToDisc, piecesOfZones, freeOf, freeSpans}
-use Rattle.model.specs.Drawing.{gapEntry, drawnEntries}
-use Rattle.model.proofs.Options.{none-some}
-use Rattle.model.proofs.ByPlace.{block-length}
-use Rattle.model.proofs.ChainDrawn.{Lies}
+use Rattle.model.specs.Pieces.{piecesOfZones, freeSpans}
 use Rattle.map.specs.Accepted.{AcceptedMap}
-use Rattle.calls.specs.Edits.{inZone}
-use Rattle.calls.specs.Holes.{hole, holes, holesFrom}
-use Rattle.calls.proofs.Kept.{all-append}
-use Rattle.runs.specs.Steps.{touching}
-use Rattle.runs.proofs.ZonePlaces.{zoneOfPiece, zone-from, zone-end, zone-low, zone-bits, disc-zone}
-use Rattle.runs.proofs.Gathered.{all-map, FromZone, in-zone-part, later-part}
-use Rattle.model.proofs.ZoneTests.{zone-tests}
-use Rattle.runs.proofs.ZoneFound.{drawn-zone}
 use Rattle.listing.specs.HeldBy.{heldFrom}
-use Rattle.listing.proofs.HeldZones.{ReadInTurn, zones-in-turn}
 use Rattle.listing.proofs.FreeHeld.{free-spans}
+use Rattle.calls.specs.Holes.{holesFrom}
+use Rattle.runs.specs.Steps.{touching}
 use Rattle.runs.specs.Editable.{zonesIn}
+use Rattle.runs.proofs.HolesSpans.{holes-are-spans}
 
--- the gaps of a drawing are its free fragments
-free-gap : (at end : ℕ) (es : List Entry) → freeOf (gapEntry at end es) ≡ hole at end (freeOf es)
-free-gap at end es = by-test (ltb at end) (λ t. simp t) (λ t. simp t)
-
-free-drawn : (at end : ℕ) (ps : List Piece) → freeOf (drawnEntries at end ps) ≡ holes at end ps
-free-drawn at end [] = free-gap at end []
-free-drawn at end (p ∷ ps) = free-gap at (p .at .start) _ ∙ ap (hole at (p .at .start)) (free-drawn (p .at .start + p .at .len) end ps)
-
--- in disc bits
-module _ (g : Geometry) (z : ℕ) where
-  hole-disc : (a b a2 b2 : ℕ) (qs : List Pair) → 512 ≤ z * g .bits + a → a2 + 512 ≡ z * g .bits + a → b2 + 512 ≡ z * g .bits + b
-      → hole a2 b2 (map (toDisc g z) qs) ≡ map (toDisc g z) (hole a b qs)
-  hole-disc a b a2 b2 qs h p q =
-      by-test (ltb a b)
-      (λ t. let s : a2 ≡ discBit g z a = omega arith in
-      let l : b2 - a2 ≡ b - a = omega arith in
-      simp (t, lt-ltb a2 b2 (omega (arith, ltb-true a b t))) (λ i. record { start = s i; len = l i } ∷ map (toDisc g z) qs))
-      (λ t. simp (t, le-ltb a2 b2 (omega (arith, ltb-false a b t))))
-
-  holes-disc : (a e a2 e2 : ℕ) (ps : List Piece) → 512 ≤ z * g .bits + a → a2 + 512 ≡ z * g .bits + a → e2 + 512 ≡ z * g .bits + e → Lies a e ps
-      → holes a2 e2 (map (pieceToDisc g z) ps) ≡ map (toDisc g z) (holes a e ps)
-  holes-disc a e a2 e2 [] h p q y = hole-disc a e a2 e2 [] h p q
-  holes-disc a e a2 e2 (x ∷ xs) h p q y =
-      let s = discBit g z (x .at .start) in
-      ap (hole a2 s) (holes-disc (x .at .start + x .at .len) e (s + x .at .len) e2 xs (omega arith) (omega arith) q (y .2))
-      ∙ hole-disc a (x .at .start) a2 s (holes (x .at .start + x .at .len) e xs) h p (omega arith)
-
--- a zone that is the drawing of its pieces, and the zones from z on
-abbrev IsDrawn : Geometry → ℕ → List Entry → Type 0
-IsDrawn g z es = (es ≡ drawnEntries (firstBit z) (endBit g) (ownedOf es)) × Lies (firstBit z) (endBit g) (ownedOf es)
-
-abbrev ZonesDrawn : Geometry → ℕ → List (List Entry) → Type 0
-ZonesDrawn g z [] = Unit {0}
-ZonesDrawn g z (es ∷ ess) = IsDrawn g z es × ZonesDrawn g (suc z) ess
-
-module _ (g : Geometry) (ok : AcceptedGeometry g) where
-  zone-holes : (z : ℕ) (es : List Entry) → IsDrawn g z es → holes (zoneFrom g z) (zoneEnd g z) (map (pieceToDisc g z) (ownedOf es)) ≡ map (toDisc g z) (freeOf es)
-  zone-holes z es d =
-      holes-disc g z (firstBit z) (endBit g) (zoneFrom g z) (zoneEnd g z) (ownedOf es) (zone-low g ok z) (zone-from g ok z) (zone-end g ok z) (d .1)
-      ∙ ap (map (toDisc g z)) (sym (ap freeOf (d .0) ∙ free-drawn (firstBit z) (endBit g) (ownedOf es)))
-
-  pieces-from : (z : ℕ) (ess : List (List Entry)) → ZonesDrawn g z ess → FromZone g z (piecesOfZones g z ess)
-  pieces-from z [] d = tt
-  pieces-from z (es ∷ ess) d =
-      let ps = map (pieceToDisc g z) (ownedOf es) in
-      let rest = piecesOfZones g (suc z) ess in
-      all-append (λ p. leb z (zoneOfPiece g p)) ps rest
-      (all-map _ _ ps (λ p e. le-leb z (zoneOfPiece g p) (omega (arith, eqb-true (zoneOfPiece g p) z e))) (disc-zone g ok z (firstBit z) (ownedOf es) (omega arith) (d .0 .1)))
-      (all-map _ _ rest (λ p e. le-leb z (zoneOfPiece g p) (omega (arith, leb-true (suc z) (zoneOfPiece g p) e))) (pieces-from (suc z) ess (d .1)))
-
-  -- of pieces that in each zone from z on are those of the entries
-  holes-spans : (l : List Piece) (z : ℕ) (ess : List (List Entry)) → ZonesDrawn g z ess → ((i : ℕ) → z ≤ i → inZone g i l ≡ inZone g i (piecesOfZones g z ess))
-      → holesFrom g z (length ess) l ≡ freeSpans g z ess
-  holes-spans l z [] d h = refl
-  holes-spans l z (es ∷ ess) d h =
-      let ps = map (pieceToDisc g z) (ownedOf es) in
-      let zoned = disc-zone g ok z (firstBit z) (ownedOf es) (omega arith) (d .0 .1) in
-      ap₂ (λ (x y : List Pair). x ++ y)
-      (ap (holes (zoneFrom g z) (zoneEnd g z)) (h z (omega arith) ∙ in-zone-part g z ps (piecesOfZones g (suc z) ess) zoned (pieces-from (suc z) ess (d .1))) ∙ zone-holes z es (d .0))
-      (holes-spans l (suc z) ess (d .1) (λ i k. h i (omega arith) ∙ later-part g z i ps (piecesOfZones g (suc z) ess) k zoned))
-
--- the zones of an accepted map
-module _ {m : List ℕ} {g : Geometry} (a : AcceptedMap m g) where
-  zones-drawn : (z : ℕ) (ess : List (List Entry)) → ReadInTurn m g z ess → touching z ess ≡ none → ZonesDrawn g z ess
-  zones-drawn z [] r t = tt
-  zones-drawn z (es ∷ ess) r t =
-      by-test (noneTouch false es)
-      (λ k. let b = zoneBlock g m z in
-      let w = zone-tests g z b es (r .1) in
-      let d = drawn-zone (g .idlen) (firstBit z) (endBit g) b (zone-bits g (a .numbers) z b (block-length m (g .zones) (g .sector) (a .sized) z (r .0))) (w .fragments) es (w .cut) (w .chain) k in
-      ((d .entries, d .lie), zones-drawn (suc z) ess (r .2) (simp k at t)))
-      (λ k. absurd (none-some (sym (simp k at t))))
-
-  zones-count : (z : ℕ) (ess : List (List Entry)) → ReadInTurn m g z ess → z + length ess ≡ g .zones
-  zones-count z [] r = omega arith
-  zones-count z (es ∷ ess) r = omega (arith, zones-count (suc z) ess (r .2))
-
-  pub holes-are-free : (ess : List (List Entry)) → mapRead m ≡ entries ess → touching 0 ess ≡ none → holesFrom g 0 (g .zones) (piecesOfZones g 0 ess) ≡ heldFrom g 0 m 0 (g .zones)
-  holes-are-free ess e t =
-      let q : ess ≡ a .zones = ap zonesIn (sym e ∙ a .read) in
-      let r : ReadInTurn m g 0 ess = subst⁻¹ (ReadInTurn m g 0) q (zones-in-turn a) in
-      let n : length ess ≡ g .zones = omega (arith, zones-count 0 ess r) in
-      ap (λ (i : ℕ). holesFrom g 0 i (piecesOfZones g 0 ess)) (sym n)
-      ∙ holes-spans g (a .numbers) (piecesOfZones g 0 ess) 0 ess (zones-drawn 0 ess r t) (λ i k. refl) ∙ ap (freeSpans g 0) q ∙ free-spans a
+pub holes-are-free : {m : List ℕ} {g : Geometry} (a : AcceptedMap m g) (ess : List (List Entry)) → mapRead m ≡ entries ess → touching 0 ess ≡ none
+    → holesFrom g 0 (g .zones) (piecesOfZones g 0 ess) ≡ heldFrom g 0 m 0 (g .zones)
+holes-are-free {m} {g} a ess e t =
+    let q : ess ≡ a .zones = ap zonesIn (sym e ∙ a .read) in
+    subst⁻¹ (λ (x : Geometry). holesFrom x 0 (x .zones) (piecesOfZones x 0 ess) ≡ freeSpans x 0 ess) (a .geometry) (holes-are-spans m ess e t)
+    ∙ ap (freeSpans g 0) q ∙ free-spans a

@@ -14,7 +14,7 @@ use Rattle.geometry.specs.Accepted.{AcceptedGeometry}
 use Rattle.geometry.specs.Places.{zoneOf, zoneFrom, discBits}
 use Rattle.model.specs.Chain.{Pair}
 use Rattle.calls.specs.Judge.{pairFits}
-use Rattle.calls.proofs.Invariant.{pair-rule, some-zone, some-bits}
+use Rattle.calls.proofs.Invariant.{pair-tested, some-zone, some-bits}
 use Rattle.place.specs.Parts.{orderPlace, fitsFrom, leading, Rising, Before}
 
 pub rising-leading : (g : Geometry) (f low high : ℕ) (qs : List Pair) → Rising g f (leading low high qs) → Rising g low (leading low high qs)
@@ -42,7 +42,7 @@ module _ (g : Geometry) (ok : AcceptedGeometry g) (start : ℕ) where
   early-rest f (q ∷ qs) h =
       let a = both (pairFits g q && leb (discBits g + f) (orderPlace g start (q .start))) (fitsFrom g start (orderPlace g start (q .start) + q .len) qs) h in
       let b = both (pairFits g q) (leb (discBits g + f) (orderPlace g start (q .start))) (a .0) in
-      let k = pair-rule g q (b .0) in
+      let k = pair-tested g q (b .0) in
       let l = leb-true (discBits g + f) (orderPlace g start (q .start)) (b .1) in
       by-test (ltb (q .start) (zoneFrom g start))
       (λ t. let e = early-order (q .start) (ltb-true (q .start) (zoneFrom g start) t) in
@@ -81,7 +81,7 @@ module _ (g : Geometry) (ok : AcceptedGeometry g) (start : ℕ) where
       goes-on t ih =
           let d = ltb-false (q .start) (zoneFrom g start) t in
           let e = late-order (q .start) d in
-          let rule = pair-rule g q (b .0) in
+          let rule = pair-tested g q (b .0) in
           let n = le-leb (zoneFrom g start) (q .start) d in
           let m : ltb (q .start) (discBits g) ≡ true = lt-ltb (q .start) (discBits g) (omega (arith, rule .below, rule .size, some-bits g ok)) in
           let r = ih (q .start + q .len) (subst (λ (x : ℕ). fitsFrom g start (x + q .len) qs ≡ true) e (a .1)) in

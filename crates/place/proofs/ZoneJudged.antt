@@ -24,7 +24,7 @@ use Rattle.calls.specs.Order.{Ascending}
 use Rattle.calls.specs.Edits.{put, own}
 use Rattle.calls.specs.Holes.{apart}
 use Rattle.calls.specs.Judge.{pairsFrom}
-use Rattle.calls.proofs.Invariant.{pair-rule, some-bits}
+use Rattle.calls.proofs.Invariant.{pair-tested, some-bits}
 use Rattle.calls.proofs.PutIn.{asc-weaken}
 use Rattle.place.specs.Parts.{Rising}
 use Rattle.place.specs.Merged.{ownedLines, linesLeft, piecesApart, Merging, ownedInZone, zoneFits}
@@ -34,7 +34,7 @@ use Rattle.place.proofs.SmallTests.{next-zone}
 pub rising-ascends : (g : Geometry) → AcceptedGeometry g → (id at : ℕ) (qs : List Pair) → Rising g at qs → Ascending at (map (own id) qs)
 rising-ascends g ok id at [] r = tt
 rising-ascends g ok id at (q ∷ qs) r =
-    let k = pair-rule g q (r .1) in
+    let k = pair-tested g q (r .1) in
     (r .0, asc-weaken (map (own id) qs) (omega (arith, k .size, some-bits g ok)) (rising-ascends g ok id (q .start + q .len) qs (r .2)))
 
 -- a zone's lines

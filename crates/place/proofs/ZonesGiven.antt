@@ -28,7 +28,7 @@ use Rattle.listing.proofs.FreeHeld.{ids-fit}
 use Rattle.calls.specs.Order.{Ascending}
 use Rattle.calls.specs.Edits.{put, own, without, touches, touchedFrom}
 use Rattle.calls.specs.Judge.{place, pairsFrom}
-use Rattle.calls.proofs.Invariant.{pair-rule, some-bits}
+use Rattle.calls.proofs.Invariant.{pair-tested, some-bits}
 use Rattle.calls.proofs.PutIn.{asc-weaken}
 use Rattle.runs.specs.Written.{written, toBlock}
 use Rattle.runs.specs.Steps.{step}
@@ -65,7 +65,7 @@ none-of-zero g (e ∷ es) f = go (e .holder) (both (idFits g e) (every (idFits g
 blocks-ascend : (g : Geometry) → AcceptedGeometry g → (id z at : ℕ) (qs : List Pair) → Rising g at qs → zoneFrom g z ≤ at → Ascending (at + 512 - z * g .bits) (map (toBlock g z) (map (own id) qs))
 blocks-ascend g ok id z at [] r h = tt
 blocks-ascend g ok id z at (q ∷ qs) r h =
-    let k = pair-rule g q (r .1) in (
+    let k = pair-tested g q (r .1) in (
       omega (arith, r .0),
       asc-weaken (map (toBlock g z) (map (own id) qs)) (omega (arith, r .0, k .size, some-bits g ok)) (blocks-ascend g ok id z (q .start + q .len) qs (r .2) (omega (arith, r .0))),
     )

@@ -20,10 +20,6 @@ bytes-small x unit h k = let l : x ≤ 4294967296 = omega arith in omega (arith,
 pub size-small : (g : Geometry) → AcceptedGeometry g → g .size ≤ 2190433320960
 size-small g ok = omega (arith, ok .size-high, mul-le-mul (disc-bits-small g ok) (ok .unit-high))
 
--- the ids
-pub names-small : (g : Geometry) → AcceptedGeometry g → g .ids * g .zones ≤ 44564480
-names-small g ok = let l : g .zones ≤ 65536 = omega (arith, ok .zones-high) in omega (arith, mul-le-mul (ok .ids-high) l)
-
 -- whether a stretch ends past the disc
 pub size-below : (size first n : ℕ) → size < n → true ≡ ltb size (first + n)
 size-below size first n h = rw (lt-ltb size (first + n) (omega arith))

@@ -3,11 +3,11 @@
 use mathlib.Core.Path.{_≡_, refl, sym, ap, _∙_}
 use mathlib.Core.Bool.{Bool, true, false}
 use mathlib.Core.List.{List, [], _∷_}
-use Prim.Native.Nat.{ℕ, _+_, _*_, _<_, _≤_}
+use Prim.Native.Nat.{ℕ, _+_, _*_, _≤_}
 use native.Mathlib.Omega.{arith}
-use lib.Dec.{ltb}
+use lib.Dec.{ltb, leb}
 use lib.ListN.{length}
-use borrow.Author.Tests.{le-leb, lt-leb, lt-ltb, le-ltb, ltb-true, ltb-false}
+use borrow.Author.Tests.{le-leb, lt-leb, ltb-true, ltb-false, leb-true}
 use Rattle.geometry.specs.declared.Geometry.{Geometry}
 use Rattle.geometry.specs.declared.Refusal.{Refusal}
 use Rattle.geometry.specs.Record.{geometryOf}
@@ -28,6 +28,7 @@ use Rattle.reach.specs.Parts.{pairCounts}
 use Rattle.reach.proofs.ApartCounts.{counts-apart}
 use Rattle.reach.proofs.ObjectHeld.{object-held}
 use Rattle.map.proofs.Answers.{read-refused}
+use Rattle.bits.proofs.Tests.{both}
 
 refusal-sweeps : (f : ClassFound) (first fill : ℕ) (old : List ℕ) (n z : ℕ) → f ≡ refused n z → Sweeps f first fill old (swept.Refused (refusal n z)) old
 refusal-sweeps f first fill old n z e = rw e (record { answer = refl; image = refl })
@@ -91,35 +92,28 @@ module _ {m : List ℕ} {g : Geometry} (a : AcceptedMap m g) (id first fill : �
   object-read : objectSweep m id first (length old) ≡ objectClass g id first (length old) (read.entries (a .zones))
   object-read = (λ i. objectClass (sym (a .geometry) i) id first (length old) (a .read i))
 
-  no-id : idFrom 3 g id ≡ false → Sweeps (objectSweep m id first (length old)) first fill old (swept.Refused (refusal 8 0)) old
+  pub no-id : idFrom 3 g id ≡ false → Sweeps (objectSweep m id first (length old)) first fill old (swept.Refused (refusal 8 0)) old
   no-id t =
       let k : objectClass g id first (length old) (read.entries (a .zones)) ≡ refused 8 0 = rw t in
       refusal-sweeps (objectSweep m id first (length old)) first fill old 8 0 (object-read ∙ k)
 
-  pub id-low : id < 3 → Sweeps (objectSweep m id first (length old)) first fill old (swept.Refused (refusal 8 0)) old
-  id-low h = no-id (rw (lt-leb 3 id h))
+  module _ (named : idFrom 3 g id ≡ true) (count : ℕ) (counted : count ≡ length (heldFrom g id m 0 (g .zones))) where
+    object-found : objectSweep m id first (length old) ≡ ofObject g first (length old) (heldFrom g id m 0 (g .zones))
+    object-found =
+        let three : 3 ≤ id = leb-true 3 id (both (leb 3 id) (ltb id (g .ids * g .zones)) named .0) in
+        object-read ∙ rw named (ap (ofObject g first (length old)) (object-held a id (omega arith)))
 
-  module _ (three : 3 ≤ id) where
-    pub id-high : g .ids * g .zones ≤ id → Sweeps (objectSweep m id first (length old)) first fill old (swept.Refused (refusal 8 0)) old
-    id-high h = no-id (rw (le-leb 3 id three, le-ltb id (g .ids * g .zones) h))
+    pub no-object : count ≡ 0 → Sweeps (objectSweep m id first (length old)) first fill old (swept.Refused (refusal 10 0)) old
+    no-object h =
+        refusal-sweeps (objectSweep m id first (length old)) first fill old 10 0 (object-found ∙ absent g first (length old) (heldFrom g id m 0 (g .zones)) (sym counted ∙ h))
 
-    module _ (below : id < g .ids * g .zones) (count : ℕ) (counted : count ≡ length (heldFrom g id m 0 (g .zones))) where
-      object-found : objectSweep m id first (length old) ≡ ofObject g first (length old) (heldFrom g id m 0 (g .zones))
-      object-found =
-          let t : idFrom 3 g id ≡ true = rw (le-leb 3 id three) (lt-ltb id (g .ids * g .zones) below) in
-          object-read ∙ rw t (ap (ofObject g first (length old)) (object-held a id (omega arith)))
+    module _ (some : count ≡ 0 → ⊥) (b : Bool) (eb : b ≡ ltb (g .size) (first + length old)) where
+      object-there : objectSweep m id first (length old) ≡ onDisc g first (length old) (heldFrom g id m 0 (g .zones))
+      object-there = object-found ∙ there g first (length old) (heldFrom g id m 0 (g .zones)) (λ k. some (counted ∙ k))
 
-      pub no-object : count ≡ 0 → Sweeps (objectSweep m id first (length old)) first fill old (swept.Refused (refusal 10 0)) old
-      no-object h =
-          refusal-sweeps (objectSweep m id first (length old)) first fill old 10 0 (object-found ∙ absent g first (length old) (heldFrom g id m 0 (g .zones)) (sym counted ∙ h))
+      pub object-past : b ≡ true → Sweeps (objectSweep m id first (length old)) first fill old (swept.Refused (refusal 16 0)) old
+      object-past = past-disc a id first fill old (objectSweep m id first (length old)) object-there b eb
 
-      module _ (some : count ≡ 0 → ⊥) (b : Bool) (eb : b ≡ ltb (g .size) (first + length old)) where
-        object-there : objectSweep m id first (length old) ≡ onDisc g first (length old) (heldFrom g id m 0 (g .zones))
-        object-there = object-found ∙ there g first (length old) (heldFrom g id m 0 (g .zones)) (λ k. some (counted ∙ k))
-
-        pub object-past : b ≡ true → Sweeps (objectSweep m id first (length old)) first fill old (swept.Refused (refusal 16 0)) old
-        object-past = past-disc a id first fill old (objectSweep m id first (length old)) object-there b eb
-
-        pub object-swept : b ≡ false → (sum : ℕ) (new : List ℕ) → new ≡ sweptBytes (g .unit) (heldFrom g id m 0 (g .zones)) fill first old
-            → sum ≡ pairCounts (g .unit) (heldFrom g id m 0 (g .zones)) first (length old) → Sweeps (objectSweep m id first (length old)) first fill old (swept.Count sum) new
-        object-swept = held-swept a id first fill old (objectSweep m id first (length old)) object-there b eb
+      pub object-swept : b ≡ false → (sum : ℕ) (new : List ℕ) → new ≡ sweptBytes (g .unit) (heldFrom g id m 0 (g .zones)) fill first old
+          → sum ≡ pairCounts (g .unit) (heldFrom g id m 0 (g .zones)) first (length old) → Sweeps (objectSweep m id first (length old)) first fill old (swept.Count sum) new
+      object-swept = held-swept a id first fill old (objectSweep m id first (length old)) object-there b eb

@@ -220,10 +220,7 @@ fn sweep_id(map: &[u8], g: Geometry, image: &mut [u8], first: u64, fill: u8, id:
     requires { ⌜ AcceptedMap (now map) g ⌝ }
     ensures { λ r. ⌜ Sweeps (objectSweep (now (map .entry)) id first (length (now (image .entry)))) first fill (now (image .entry)) r (now (image .exit)) ⌝ }
 {
-    if id < 3 {
-        return Swept::Refused(Refusal { number: 8, zone: 0 });
-    }
-    if g.ids * g.zones <= id as usize {
+    if !g.is_id(3, id as usize) {
         return Swept::Refused(Refusal { number: 8, zone: 0 });
     }
     if listing::count_zones(map, g, id) == 0 {

@@ -4,13 +4,13 @@ use mathlib.Core.Path.{_≡_, refl, sym, ap, _∙_, subst, subst⁻¹}
 use mathlib.Core.Bool.{true, false}
 use mathlib.Core.List.{List}
 use mathlib.Core.Option.{some}
-use Prim.Native.Nat.{ℕ, _*_, _<_, _≤_}
+use Prim.Native.Nat.{ℕ, _*_, _≤_}
 use native.Mathlib.Omega.{arith}
 use lib.Dec.{leb, ltb}
 use lib.ListN.{length}
-use borrow.Author.Tests.{le-leb, lt-leb, lt-ltb, le-ltb, leb-true}
+use borrow.Author.Tests.{leb-true}
 use Rattle.bits.specs.Bits.{Bytes}
-use Rattle.bits.proofs.Tests.{both, and-true}
+use Rattle.bits.proofs.Tests.{both}
 use Rattle.geometry.specs.declared.Geometry.{Geometry}
 use Rattle.geometry.specs.declared.Refusal.{Refusal}
 use Rattle.geometry.specs.Record.{geometryOf}
@@ -25,7 +25,7 @@ use Rattle.map.proofs.Answers.{read-refused}
 use Rattle.map.specs.declared.Checked.the-variants as check
 use Rattle.calls.specs.Judge.{editable}
 use Rattle.calls.specs.Judge as call
-use Rattle.runs.specs.Steps.{touching, discOf, refused, byRead, outcome, bytesAfter, step}
+use Rattle.runs.specs.Steps.{Outcome, touching, discOf, refused, byRead, outcome, bytesAfter, step}
 use Rattle.runs.specs.Editable.{zonesIn, zonesOf, Editable}
 use Rattle.listing.specs.Listed.{PairsFound, present, objectFound, Lists}
 use Rattle.listing.specs.Listed as list
@@ -34,34 +34,26 @@ use Rattle.listing.specs.declared.Listed.the-variants as listed
 use Rattle.holes.specs.Touching.{touchingOf}
 use Rattle.holes.specs.declared.Touching.the-variants as told
 use Rattle.holes.proofs.ZonesTouching.{none-told, zone-told, zones-are}
-use Rattle.release.specs.Released.{answerOf, listAfter, Releases}
+use Rattle.release.specs.Released.{pairsTaken, Releases}
 use Rattle.release.specs.Zones.{ReleasedMap}
 use Rattle.release.proofs.Releasing.{zones-apart}
 use Rattle.release.proofs.ReleasedBytes.{released-bytes}
 use Rattle.release.proofs.ListedVerdict.{verdictOf, outcomeOf, judged-as-listed, found-told, found-is, outcome-as-listed}
 
 refusal-releases : (m : List ℕ) (id : ℕ) (old : List ℕ) (n z : ℕ) → outcome m (call.release id (length old)) ≡ refused n z → Releases m id old (listed.Refused (refusal n z)) m old
-refusal-releases m id old n z e = record { answer = sym (ap answerOf e); bytes = sym (ap (bytesAfter m) e); list = sym (ap (listAfter old) e) }
+refusal-releases m id old n z e =
+    record { lists = subst⁻¹ (λ (x : Outcome). Lists (pairsTaken x) old (listed.Refused (refusal n z)) old) e (record { answer = refl; list = refl }); bytes = sym (ap (bytesAfter m) e) }
 
 pub check-refuses : (m : List ℕ) (id : ℕ) (old : List ℕ) (r : Refusal) → checked m ≡ check.Refused r → Releases m id old (listed.Refused r) m old
 check-refuses m id old r e =
     refusal-releases m id old (r .number) (r .zone) (ap (byRead m (call.release id (length old))) (read-refused (geometryOf m) (mapRead m) r e))
 
-pub id-named : (g : Geometry) (id : ℕ) → 3 ≤ id → id < g .ids * g .zones → editable g id ≡ true
-id-named g id l h = and-true (leb 3 id) (ltb id (g .ids * g .zones)) (le-leb 3 id l) (lt-ltb id (g .ids * g .zones) h)
-
 module _ {m : List ℕ} {g : Geometry} (a : AcceptedMap m g) (id : ℕ) (old : List ℕ) where
   -- 8: "id argument outside .. 3 .. to P*nzones-1"
-  eight : editable g id ≡ false → Releases m id old (listed.Refused (refusal 8 0)) m old
-  eight e =
+  pub not-named : editable g id ≡ false → Releases m id old (listed.Refused (refusal 8 0)) m old
+  not-named e =
       let f : editable (geometryOf m) id ≡ false = subst (λ (x : Geometry). editable x id ≡ false) (a .geometry) e in
       refusal-releases m id old 8 0 (ap (byRead m (call.release id (length old))) (a .read) ∙ rw f)
-
-  pub id-below : id < 3 → Releases m id old (listed.Refused (refusal 8 0)) m old
-  id-below h = eight (rw (lt-leb 3 id h))
-
-  pub id-above : 3 ≤ id → g .ids * g .zones ≤ id → Releases m id old (listed.Refused (refusal 8 0)) m old
-  id-above l h = eight (rw (le-leb 3 id l, le-ltb id (g .ids * g .zones) h))
 
   -- 9: "two free fragments of a zone touch"
   pub touching-refuses : editable g id ≡ true → (z : ℕ) → touchingOf (touching 0 (zonesOf m)) ≡ told.Zone z → Releases m id old (listed.Refused (refusal 9 z)) m old
@@ -81,13 +73,9 @@ map-editable {m} a b t =
     }
 
 -- the answer and the list are the listing's
-listed-answer : (g : Geometry) (m : List ℕ) (ess : List (List Entry)) (id : ℕ) (f : PairsFound) → answerOf (outcomeOf g (discOf m ess) id f) ≡ list.answerOf f
-listed-answer g m ess id (list.found qs) = refl
-listed-answer g m ess id (list.refused n z) = refl
-
-listed-after : (g : Geometry) (m : List ℕ) (ess : List (List Entry)) (id : ℕ) (old : List ℕ) (f : PairsFound) → listAfter old (outcomeOf g (discOf m ess) id f) ≡ list.listAfter old f
-listed-after g m ess id old (list.found qs) = refl
-listed-after g m ess id old (list.refused n z) = refl
+taken-found : (g : Geometry) (m : List ℕ) (ess : List (List Entry)) (id : ℕ) (f : PairsFound) → pairsTaken (outcomeOf g (discOf m ess) id f) ≡ f
+taken-found g m ess id (list.found qs) = refl
+taken-found g m ess id (list.refused n z) = refl
 
 -- 10 and 17 leave the map as it was
 kept-after : (g : Geometry) (m : List ℕ) (ess : List (List Entry)) (id : ℕ) (f : PairsFound) (r : Refusal) → list.answerOf f ≡ listed.Refused r → bytesAfter m (outcomeOf g (discOf m ess) id f) ≡ m
@@ -107,9 +95,8 @@ module _ {m : List ℕ} (a : AcceptedMap m (geometryOf m)) (e : Editable m) (id 
 
   with-bytes : (after : List ℕ) → after ≡ step m (call.release id (length old)) → Releases m id old r after new
   with-bytes after b = record {
-    answer = l .answer ∙ sym (ap answerOf outcome-is ∙ listed-answer g m (a .zones) id (objectFound m id room));
+    lists = subst⁻¹ (λ (x : PairsFound). Lists x old r new) (ap pairsTaken outcome-is ∙ taken-found g m (a .zones) id (objectFound m id room)) l;
     bytes = b;
-    list = l .list ∙ sym (ap (listAfter old) outcome-is ∙ listed-after g m (a .zones) id old (objectFound m id room));
   }
 
   refused-here : (q : Refusal) → r ≡ listed.Refused q → Releases m id old r m new

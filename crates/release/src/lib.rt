@@ -32,10 +32,7 @@ fn release_checked(map: &mut [u8], g: Geometry, id: u32, pairs: &mut [u32]) -> L
     requires { ⌜ AcceptedMap (now map) g ⌝ }
     ensures { λ r. ⌜ Releases (now (map .entry)) id (now (pairs .entry)) r (now (map .exit)) (now (pairs .exit)) ⌝ }
 {
-    if id < 3 {
-        return Listed::Refused(Refusal { number: 8, zone: 0 });
-    }
-    if g.ids * g.zones <= id as usize {
+    if !g.is_id(3, id as usize) {
         return Listed::Refused(Refusal { number: 8, zone: 0 });
     }
     match holes::first_touching(map, g) {

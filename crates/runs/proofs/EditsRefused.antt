@@ -1,29 +1,35 @@
--- Refusals 13 and 14: the verdict on a map's pieces, carried to its outcome.
-use mathlib.Core.Path.{_≡_, refl, sym, ap, _∙_}
+-- Refusals 13, 14 and 15 and what a claim takes: the verdict on a map's pieces, carried to its outcome.
+use mathlib.Core.Path.{_≡_, refl, sym, ap, ap₂, _∙_, subst, subst⁻¹}
 use mathlib.Core.Bool.{Bool, true, false}
-use mathlib.Core.List.{List, []}
-use Prim.Native.Nat.{ℕ}
+use mathlib.Core.List.{List, [], _∷_}
+use mathlib.Core.Option.{Option, none, some}
+use Prim.Native.Nat.{ℕ, _-_, _*_, _<_}
 use native.Mathlib.Omega.{arith}
+use lib.Dec.{ltb}
+use borrow.Author.Tests.{lt-ltb}
 use Rattle.bits.proofs.Tests.{by-test}
 use Rattle.geometry.specs.declared.Geometry.{Geometry}
 use Rattle.geometry.specs.Record.{geometryOf}
 use Rattle.geometry.specs.Accepted.{AcceptedGeometry}
+use Rattle.model.specs.Chain.{Pair}
 use Rattle.model.specs.Pieces.{Piece, piecesOf}
 use Rattle.calls.specs.Edits.{Disc, Edit, give, gives}
-use Rattle.calls.specs.Holes.{allApart}
-use Rattle.calls.specs.Judge.{Call, place, Verdict, unless, isEmpty, editable, listFits, pairsFrom, judge}
+use Rattle.calls.specs.Holes.{holesFrom, allApart}
+use Rattle.calls.specs.Judge.{Call, place, claim, Verdict, unless, isEmpty, editable, listFits, pairsFrom, need, firstHole, taken, lowest, claimIn, judge}
 use Rattle.calls.specs.Judge as judged
-use Rattle.calls.specs.Room.{RoomFor}
+use Rattle.calls.specs.Room.{In, RoomFor}
 use Rattle.calls.proofs.Invariant.{FitPieces}
-use Rattle.calls.proofs.RunsKept.{unless-inv}
+use Rattle.calls.proofs.RunsKept.{unless-inv, same-edit}
 use Rattle.calls.proofs.Thirteen.{thirteen}
 use Rattle.calls.proofs.Fourteen as onPieces
-use Rattle.runs.specs.Steps.{Outcome, refused, done, byVerdict, discOf, outcome}
+use Rattle.runs.specs.Steps.{refused, byVerdict, discOf, outcome}
 use Rattle.runs.specs.Editable.{zonesOf, Editable, piecesOn}
 use Rattle.runs.specs.Demand3.{Accepted}
+use Rattle.runs.specs.Claims.{spansOn, ClaimRules}
 use Rattle.runs.proofs.StepWritten.{outcome-judged}
 use Rattle.runs.proofs.MapAccepted.{map-geometry, map-disc}
 use Rattle.runs.proofs.EditsOf.{judged-done}
+use Rattle.runs.proofs.ClaimsJudged.{none-long, all-short, spans-holes, claim-rules}
 
 -- a refused outcome was judged so
 judged-refused : (g : Geometry) (s : Disc) (v : Verdict) (n z : ℕ) → byVerdict g s v ≡ refused n z → v ≡ judged.refused n
@@ -84,3 +90,41 @@ module _ (m : List ℕ) (ed : Editable m) where
       by-test (allApart g 0 (g .zones) (give id (pairsFrom list) l))
       (λ t. absurd (full (thirteen g id list l ok fit c .0 t)))
       (λ t. fate (place id list) ∙ simp (a, e, c, t) refl)
+
+  -- a claim: the id and the hole that are found for it
+  module _ (size : ℕ) where
+    abbrev unused : Option ℕ
+    unused = lowest (piecesOn (geometryOf m) m) ((geometryOf m) .ids * (geometryOf m) .zones - 3) 3
+
+    abbrev found : Option Pair
+    found = firstHole (need (geometryOf m) size) (holesFrom (geometryOf m) 0 ((geometryOf m) .zones) (piecesOn (geometryOf m) m))
+
+    pub claimed : (e : Edit) → Accepted m (claim size) e → (id : ℕ) × (q : Pair) × (e ≡ gives id (q ∷ [])) × ClaimRules m size id q
+    claimed e a =
+        let h = judged-done m (zonesOf m) (ed .accepted) (ed .apart) (claim size) e (a .disc) (a .is) in
+        go unused refl found refl (unless-inv (ltb 0 size) 12 (claimIn unused found (g .shortest) (need g size)) e h .1)
+      where
+        go : (i : Option ℕ) → unused ≡ i → (o : Option Pair) → found ≡ o → claimIn i o (g .shortest) (need g size) ≡ judged.accepted e
+            → (id : ℕ) × (q : Pair) × (e ≡ gives id (q ∷ [])) × ClaimRules m size id q
+        go none ei o eo h = let z : _≡_ {A = ℕ} 0 1 = cc in absurd (omega arith)
+        go (some id) ei none eo h = let z : _≡_ {A = ℕ} 0 1 = cc in absurd (omega arith)
+        go (some id) ei (some q) eo h = (id, taken (g .shortest) (need g size) q, sym (same-edit h), claim-rules m ed size id q ei eo)
+
+    pub fifteen-had-none : outcome m (claim size) ≡ refused 15 0 → (h : Pair) → In h (spansOn m) → h .len < need (geometryOf m) size
+    fifteen-had-none o h i =
+        none-long (need g size) (holesFrom g 0 (g .zones) l) (go unused found refl (passed (ltb 0 size) 12 15 _ (λ e. omega arith) (told (claim size) 15 0 o) .1)) h (subst (In h) (spans-holes m ed) i)
+      where
+        go : (i : Option ℕ) (o : Option Pair) → found ≡ o → claimIn i o (g .shortest) (need g size) ≡ judged.refused 15 → found ≡ none
+        go none o eo h = let z : _≡_ {A = ℕ} 14 15 = cc in absurd (omega arith)
+        go (some id) none eo h = eo
+        go (some id) (some q) eo h = let z : _≡_ {A = ℕ} 0 1 = cc in absurd (omega arith)
+
+    pub no-hole : 0 < size → ((h : Pair) → In h (spansOn m) → h .len < need (geometryOf m) size) → outcome m (claim size) ≡ refused 15 0
+    no-hole some-bytes short = fate (claim size) ∙ simp (lt-ltb 0 size some-bytes) (go unused refl)
+      where
+        none-found : found ≡ none
+        none-found = all-short (need g size) (holesFrom g 0 (g .zones) l) (λ h i. short h (subst⁻¹ (In h) (spans-holes m ed) i))
+
+        go : (i : Option ℕ) → unused ≡ i → byVerdict g (discOf m (zonesOf m)) (claimIn unused found (g .shortest) (need g size)) ≡ refused 15 0
+        go none e = absurd (onPieces.no-fourteen g l ok fit e)
+        go (some id) e = ap₂ (λ (i : Option ℕ) (o : Option Pair). byVerdict g (discOf m (zonesOf m)) (claimIn i o (g .shortest) (need g size))) e none-found

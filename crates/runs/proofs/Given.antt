@@ -7,19 +7,19 @@ use mathlib.Core.Option.{Option, none, some}
 use Prim.Native.Nat.{ℕ, zero, suc, _-_, _*_, _%_, _<_, _≤_}
 use native.Mathlib.Omega.{arith}
 use lib.Dec.{eqb, ltb, leb}
-use lib.ListN.{length}
+use lib.ListN.{length, length-append, length-map}
 use borrow.Author.Tests.{eqb-true, eq-eqb, ltb-true, lt-ltb, le-leb}
 use Rattle.bits.proofs.Tests.{by-test, both, and-true}
 use Rattle.geometry.specs.declared.Geometry.{Geometry}
 use Rattle.geometry.specs.Accepted.{AcceptedGeometry}
 use Rattle.model.specs.Chain.{Pair, numbersOf}
-use Rattle.model.specs.Pieces.{Piece, piecesOf, objectPairs}
+use Rattle.model.specs.Pieces.{Piece, keep, piecesOf, late, rotate, objectPairs}
 use Rattle.model.proofs.Options.{none-some, some-some}
 use Rattle.model.proofs.Lists.{length-numbers}
 use Rattle.calls.specs.Edits.{Disc, give, Edit, takes, gives}
 use Rattle.calls.specs.Holes.{holesFrom, allApart}
 use Rattle.calls.specs.Judge.{Call, release, place, claim, accepted, unless, isEmpty, editable, pairsFrom, pairsFit, listFits, need, firstHole, taken, lowest, claimIn, judge}
-use Rattle.calls.proofs.Kept.{some-length}
+use Rattle.calls.proofs.Kept.{length-parts, some-length}
 use Rattle.calls.proofs.HolesLeft.{apart-all}
 use Rattle.calls.proofs.Undo.{read-back}
 use Rattle.calls.proofs.RunsKept.{unless-inv, lowest-lt, allowed}
@@ -35,12 +35,24 @@ pairs-some [] h k e = omega arith
 pairs-some (a ∷ []) h k e = omega arith
 pairs-some (a ∷ b ∷ l) h k e = let z : _≡_ {A = ℕ} 0 1 = cc in omega arith
 
-lowest-least : (l : List Piece) (n id i : ℕ) → lowest l n id ≡ some i → id ≤ i
+pub lowest-least : (l : List Piece) (n id i : ℕ) → lowest l n id ≡ some i → id ≤ i
 lowest-least l zero id i h = absurd (none-some h)
 lowest-least l (suc n) id i h =
     by-test (isEmpty (piecesOf id l))
     (λ t. let k : id ≡ i = some-some (simp t at h) in omega arith)
     (λ t. omega (arith, lowest-least l n (suc id) i (simp t at h)))
+
+-- an object that lists no pairs has no pieces
+pub none-listed : (g : Geometry) (id : ℕ) (l : List Piece) → objectPairs g id l ≡ [] → piecesOf id l ≡ []
+none-listed g id l e =
+    let X = piecesOf id l in
+    let k : length (objectPairs g id l) ≡ length X =
+    length-map (rotate (late g id) X) (λ (p : Piece). p .at) ∙ length-append (keep (late g id) X) (keep (λ x. not (late g id x)) X) ∙ length-parts (late g id) X in
+    no-length X (sym k ∙ ap length e)
+  where
+    no-length : (l : List Piece) → length l ≡ 0 → l ≡ []
+    no-length [] h = refl
+    no-length (p ∷ ps) h = absurd (omega arith)
 
 taken-given : {id jd : ℕ} {ps qs : List Pair} → accepted (takes id ps) ≡ accepted (gives jd qs) → ⊥
 taken-given h = let z : _≡_ {A = ℕ} 0 1 = cc in omega arith

@@ -18,13 +18,16 @@ pub mod PiecesTested
 pub mod ZoneFound
 pub mod MapFound
 pub mod MapAccepted
+pub mod HolesSpans
 pub mod RunsOnBytes
 pub mod ZonesTouched
 pub mod ZonesAfter
+pub mod BitsKept
 pub mod EditsOf
 pub mod EveryRun
 pub mod Given
 pub mod StepLaws
+pub mod ClaimsJudged
 pub mod EditsRefused
 pub mod BlockPut
 pub mod WrittenBelow

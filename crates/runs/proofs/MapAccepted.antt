@@ -38,31 +38,36 @@ refused-entries e = let z : _≡_ {A = ℕ} 0 1 = cc in omega arith
 pub entries-entries : {ds es : List (List Entry)} → entries ds ≡ entries es → ds ≡ es
 entries-entries e = cc
 
+-- a zone and those after it: each was read, and in none do two free fragments touch
+pub zone-and-rest : (g : Geometry) (z : ℕ) (b : List ℕ) (bs : List (List ℕ)) (ess : List (List Entry)) → zonesRead g z (b ∷ bs) ≡ entries ess
+    → (es : List Entry) × (ds : List (List Entry)) × (zoneRead g z b ≡ sound es) × (zonesRead g (suc z) bs ≡ entries ds) × (es ∷ ds ≡ ess)
+zone-and-rest g z b bs ess h = go (zoneRead g z b) refl (zonesRead g (suc z) bs) refl h
+  where
+    go : (v : ZoneRead) → zoneRead g z b ≡ v → (q : MapRead) → zonesRead g (suc z) bs ≡ q → joinZone z v q ≡ entries ess
+        → (es : List Entry) × (ds : List (List Entry)) × (zoneRead g z b ≡ sound es) × (zonesRead g (suc z) bs ≡ entries ds) × (es ∷ ds ≡ ess)
+    go (fault n) e q f h = absurd (refused-entries h)
+    go (sound es) e (read.refused n a) f h = absurd (refused-entries h)
+    go (sound es) e (entries ds) f h = (es, ds, e, f, entries-entries h)
+
+pub apart-and-rest : (j : ℕ) (es : List Entry) (ds : List (List Entry)) → touching j (es ∷ ds) ≡ none → (noneTouch false es ≡ true) × (touching (suc j) ds ≡ none)
+apart-and-rest j es ds t = by-test (noneTouch false es) (λ u. (u, simp u at t)) (λ u. absurd (none-some (sym (simp u at t))))
+
 -- the zones one by one
 module _ (g : Geometry) (ok : AcceptedGeometry g) where
   pub zones-found : (z i j : ℕ) (bs : List (List ℕ)) (ess : List (List Entry)) → Sized (g .sector) bs → EachBytes bs
       → differing i bs ≡ none → zonesRead g z bs ≡ entries ess → touching j ess ≡ none → ZonesFound g z bs ess
   zones-found z i j [] ess y w c r t = subst (ZonesFound g z []) (entries-entries r) tt
   zones-found z i j (b ∷ bs) ess y w c r t =
-      go (zoneRead g z b) refl (zonesRead g (suc z) bs) refl r (λ ds e u. zones-found (suc z) (suc i) (suc j) bs ds (y .1) (w .1) (rest .1) e u)
+      let k = zone-and-rest g z b bs ess r in
+      let u = apart-and-rest j (k .0) (k .1) (subst⁻¹ (λ (x : List (List Entry)). touching j x ≡ none) (k .4) t) in
+      subst (ZonesFound g z (b ∷ bs)) (k .4)
+      (zone-found g ok z b (k .0) (y .0) (w .0) (rest .0) (u .0) (k .2), zones-found (suc z) (suc i) (suc j) bs (k .1) (y .1) (w .1) (rest .1) (k .3) (u .1))
     where
       rest : (getD b 0 0 ≡ zoneCheck b) × (differing (suc i) bs ≡ none)
       rest =
           by-test (eqb (getD b 0 0) (zoneCheck b))
           (λ h. (eqb-true (getD b 0 0) (zoneCheck b) h, simp h at c))
           (λ h. absurd (none-some (sym (simp h at c))))
-
-      go : (v : ZoneRead) → zoneRead g z b ≡ v → (q : MapRead) → zonesRead g (suc z) bs ≡ q → joinZone z v q ≡ entries ess
-          → ((ds : List (List Entry)) → zonesRead g (suc z) bs ≡ entries ds → touching (suc j) ds ≡ none → ZonesFound g (suc z) bs ds) → ZonesFound g z (b ∷ bs) ess
-      go (fault n) e q f h ih = absurd (refused-entries h)
-      go (sound es) e (read.refused n a) f h ih = absurd (refused-entries h)
-      go (sound es) e (entries ds) f h ih =
-          let same : es ∷ ds ≡ ess = entries-entries h in
-          let t2 : touching j (es ∷ ds) ≡ none = subst⁻¹ (λ (x : List (List Entry)). touching j x ≡ none) same t in
-          subst (ZonesFound g z (b ∷ bs)) same
-          (by-test (noneTouch false es)
-          (λ u. (zone-found g ok z b es (y .0) (w .0) (rest .0) u e, ih ds f (simp u at t2)))
-          (λ u. absurd (none-some (sym (simp u at t2)))))
 
 -- the check of the whole map, test by test
 pub record MapTests (m : List ℕ) (ess : List (List Entry)) : Type 0 where

@@ -1,28 +1,25 @@
 -- Demand 2's and demand 3's statements on single steps: what an accepted call leaves, and that an undo at once is accepted and
 -- restores every byte.
-use mathlib.Core.Path.{_≡_, refl, sym, ap, ap₂, _∙_, subst, subst⁻¹}
-use mathlib.Core.Bool.{Bool, true, false, not, false≢true}
-use mathlib.Core.List.{List, [], _∷_, map}
-use Prim.Native.Nat.{ℕ, _*_, _<_, _≤_}
-use native.Mathlib.Omega.{arith}
-use lib.Dec.{eqb, ltb, leb}
-use lib.ListN.{length, length-append, length-map}
+use mathlib.Core.Path.{_≡_, sym, ap, ap₂, _∙_, subst⁻¹}
+use mathlib.Core.Bool.{not, false≢true}
+use mathlib.Core.List.{List, [], _∷_}
+use Prim.Native.Nat.{ℕ, _*_, _≤_}
+use lib.Dec.{leb}
+use lib.ListN.{length}
 use Rattle.geometry.specs.declared.Geometry.{Geometry}
 use Rattle.geometry.specs.Record.{geometryOf}
 use Rattle.geometry.specs.Accepted.{AcceptedGeometry}
 use Rattle.model.specs.Chain.{Pair, numbersOf}
-use Rattle.model.specs.Pieces.{Piece, keep, piecesOf, late, rotate, objectPairs}
-use Rattle.calls.specs.Edits.{Disc, without, give, Edit, takes, gives, edit, editId}
+use Rattle.model.specs.Pieces.{Piece, piecesOf, objectPairs}
+use Rattle.calls.specs.Edits.{Disc, without, Edit, takes, gives, edit, editId}
 use Rattle.calls.specs.Judge.{Call, release, place, claim, Verdict, unless, isEmpty, editable, judge, obey}
 use Rattle.calls.specs.Judge as judged
 use Rattle.calls.specs.Runs.{edits, Undone, nothing, strike, released, restored}
 use Rattle.calls.specs.Runs as onPieces
-use Rattle.calls.proofs.Kept.{length-parts}
-use Rattle.calls.proofs.RunsKept.{unless-inv, same-edit, allowed}
+use Rattle.calls.proofs.RunsKept.{unless-inv, allowed}
 use Rattle.calls.proofs.ReadsAfter.{ListedAfter, listed-after}
-use Rattle.calls.proofs.Undo.{Allowed}
 use Rattle.calls.proofs.Returned.{place-back, release-back}
-use Rattle.runs.specs.Steps.{Outcome, refused, done, byVerdict, discOf, outcome, bytesAfter, step, steps}
+use Rattle.runs.specs.Steps.{refused, byVerdict, discOf, outcome, bytesAfter, step, steps}
 use Rattle.runs.specs.Editable.{zonesOf, Editable, listedOn, NamedMoved, ReadsAfter}
 use Rattle.runs.specs.Demand3.{Accepted}
 use Rattle.runs.proofs.PiecesKept.{AcceptedPieces}
@@ -30,9 +27,10 @@ use Rattle.runs.proofs.StepWritten.{outcome-judged}
 use Rattle.runs.proofs.MapAccepted.{map-geometry, map-disc}
 use Rattle.runs.proofs.RunsOnBytes.{ReadsAs, undone-bytes, step-accepted, bytes-kept}
 use Rattle.runs.proofs.ZonesAfter.{zone-untouched}
+use Rattle.runs.proofs.BitsKept.{outside-kept}
 use Rattle.runs.proofs.EditsOf.{judged-done}
 use Rattle.runs.proofs.EveryRun.{reads-listed, reads-editable}
-use Rattle.runs.proofs.Given.{given-facts, given-placed}
+use Rattle.runs.proofs.Given.{none-listed, given-facts, given-placed}
 
 pub refused-keeps : (m : List ℕ) (c : Call) (n z : ℕ) → outcome m c ≡ refused n z → step m c ≡ m
 refused-keeps m c n z h = ap (bytesAfter m) h
@@ -86,6 +84,7 @@ module _ (m : List ℕ) (ed : Editable m) where
         moved = named e w l;
         others = λ id n. l id ∙ rest e w id n;
         untouched = λ z k t. zone-untouched m (zonesOf m) (ed .bytes) (ed .accepted) (ed .apart) c e h z k t;
+        outside = outside-kept m (zonesOf m) (ed .bytes) (ed .accepted) (ed .apart) (c ∷ []);
       }
     where
       named : (e : Edit) → ListedAfter (geometryOf m) (s .pieces) e ((edit (geometryOf m) e s) .pieces)
@@ -111,22 +110,11 @@ module _ (m : List ℕ) (ed : Editable m) where
       let y = unless-inv (not (isEmpty (piecesOf id P))) 10 (unless (leb (2 * length ps) room) 17 (judged.accepted (takes id ps))) e (x .1) in
       let k : judge (geometryOf m) (without id P) (place id (numbersOf qs)) ≡ judged.accepted (gives id qs) =
       subst⁻¹ (λ (r : List Pair). judge (geometryOf m) (without id P) (place id (numbersOf r)) ≡ judged.accepted (gives id r)) q
-      (place-back (geometryOf m) ok id P (pieces-ok .fit) (pieces-ok .clusters) (x .0) (some-listed id P (y .0))) in (
+      (place-back (geometryOf m) ok id P (pieces-ok .fit) (pieces-ok .clusters) (x .0)
+      (λ n. false≢true (sym (ap (λ (r : List Piece). not (isEmpty r)) (none-listed (geometryOf m) id P n)) ∙ y .0))) in (
         reads-outcome (geometryOf m) (edit (geometryOf m) e s) (step m c) (after-reads c e a) (place id (numbersOf qs)) (gives id qs) k,
         undo c (place id (numbersOf qs)) e (gives id qs) h k (strike [] [] (restored id qs) nothing),
       )
-    where
-      some-listed : (id : ℕ) (l : List Piece) → not (isEmpty (piecesOf id l)) ≡ true → objectPairs (geometryOf m) id l ≡ [] → ⊥
-      some-listed id l t e =
-          let X = piecesOf id l in
-          let k : length (objectPairs (geometryOf m) id l) ≡ length X =
-          length-map (rotate (late (geometryOf m) id) X) (λ (p : Piece). p .at)
-          ∙ length-append (keep (late (geometryOf m) id) X) (keep (λ x. not (late (geometryOf m) id x)) X) ∙ length-parts (late (geometryOf m) id) X in
-          not-none X t (sym k ∙ ap length e)
-        where
-          not-none : (l : List Piece) → not (isEmpty l) ≡ true → length l ≡ 0 → ⊥
-          not-none [] t e = false≢true t
-          not-none (p ∷ ps) t e = omega arith
 
   pub given-release : (c : Call) (id room : ℕ) (qs : List Pair) → Accepted m c (gives id qs) → 2 * length qs ≤ room
       → Accepted (step m c) (release id room) (takes id qs) × (steps m (c ∷ release id room ∷ []) ≡ m)

@@ -1,12 +1,15 @@
 -- The maps that edits work on, and what the listing call shows of them (document 01, "Runs in demand 3"). Assumes nothing.
 use mathlib.Core.Path.{_≡_}
-use mathlib.Core.Bool.{Bool, true, false}
-use mathlib.Core.List.{List, [], _∷_}
+use mathlib.Core.Bool.{false}
+use mathlib.Core.List.{List, []}
 use mathlib.Core.Option.{none}
-use Prim.Native.Nat.{ℕ, _<_}
-use Rattle.bits.specs.Bits.{Bytes}
+use mathlib.Core.Logic.{_⊎_}
+use Prim.Native.Nat.{ℕ, _<_, _≤_}
+use lib.ListN.{getD}
+use Rattle.bits.specs.Bits.{byteBits, Bytes}
 use Rattle.geometry.specs.declared.Geometry.{Geometry}
 use Rattle.geometry.specs.Record.{geometryOf}
+use Rattle.geometry.specs.Places.{firstBit, endBit}
 use Rattle.model.specs.Chain.{Pair, Entry}
 use Rattle.model.specs.Rules.{zoneBlock}
 use Rattle.model.specs.Verdict.{MapRead, refused, entries, mapRead}
@@ -48,3 +51,7 @@ pub record ReadsAfter (m : List ℕ) (e : Edit) (after : List ℕ) : Type 0 wher
   pub moved : NamedMoved m e after
   pub others : (id : ℕ) → (id ≡ editId e → ⊥) → listedOn after id ≡ listedOn m id
   pub untouched : (z : ℕ) → z < (geometryOf m) .zones → touches (geometryOf m) z (pairsIn e) ≡ false → zoneBlock (geometryOf m) after z ≡ zoneBlock (geometryOf m) m z
+  -- "Each edit writes only the blocks of the zones it touches, and in them nothing outside check byte, FreeLink, cross check and
+  -- allocation bits." The first half is `untouched`. Check byte, FreeLink and cross check are the block's first 32 bits.
+  pub outside : (z : ℕ) → z < (geometryOf m) .zones → (b : ℕ) → 32 ≤ b → (b < firstBit z) ⊎ (endBit (geometryOf m) ≤ b)
+      → getD (byteBits (zoneBlock (geometryOf m) after z)) b false ≡ getD (byteBits (zoneBlock (geometryOf m) m z)) b false

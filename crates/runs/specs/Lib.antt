@@ -2,4 +2,5 @@ pub mod Written
 pub mod Steps
 pub mod Editable
 pub mod Demand3
-pub mod Refusals
+pub mod Claims
+pub mod EditRules

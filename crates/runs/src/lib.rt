@@ -1,14 +1,14 @@
 // Runs of calls: what each call that edits does to the bytes of a map, and demand 3. Definitions and laws, no code; the contracts of
 // release, place and claim say that the code does the steps defined here, so the theorem below is about the code.
 ghost use Rattle.runs.specs.Demand3.{Demand3};
-ghost use Rattle.runs.specs.Refusals.{EditRefusals};
+ghost use Rattle.runs.specs.EditRules.{EditRules};
 
 // Demand 3 whole: steps, undo, and every run.
 pub fn demand_3()
     ensures { λ _. ⌜ Demand3 ⌝ }
 {}
 
-// Refusals 13 and 14 in the papers' words.
-pub fn edit_refusals()
-    ensures { λ _. ⌜ EditRefusals ⌝ }
+// Refusals 12 to 15 and what a claim takes, in the papers' words.
+pub fn edit_rules()
+    ensures { λ _. ⌜ EditRules ⌝ }
 {}

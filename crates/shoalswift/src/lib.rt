@@ -16,7 +16,7 @@ ghost use Rattle.listing.specs.Listed.{objectFound, freeFound, listNumbers};
 ghost use Rattle.listing.specs.Listed as listed;
 ghost use Rattle.reach.specs.Address.{addressFound, addressAnswer, addressNumbers};
 ghost use Rattle.reach.specs.Sweep.{objectSweep, freeSweep, sweepAnswer, sweepNumbers, imageAfter};
-ghost use Rattle.release.specs.Released as released;
+ghost use Rattle.release.specs.Released.{pairsTaken};
 ghost use Rattle.place.specs.Placed as placed;
 ghost use Rattle.claim.specs.Claimed as claimed;
 
@@ -49,18 +49,8 @@ pub extern "C" fn shoalswift_list(
     ensures answer { λ r. ⌜ (r, now (zone .exit), now (pairs .exit)) ≡ listNumbers (listed.answerOf (objectFound (now (map .entry)) id (length (now (list .entry))))) ⌝ }
     ensures list { λ r. ⌜ now (list .exit) ≡ listed.listAfter (now (list .entry)) (objectFound (now (map .entry)) id (length (now (list .entry)))) ⌝ }
 {
-    match listing::list(map, id, list) {
-        Listed::Pairs(n) => {
-            *pairs = n as u64;
-            *zone = 0;
-            0
-        }
-        Listed::Refused(r) => {
-            *pairs = 0;
-            *zone = r.zone;
-            r.number
-        }
-    }
+    let r = listing::list(map, id, list);
+    pairs_told(r, pairs, zone)
 }
 
 // Lists the free spans, ascending.
@@ -74,18 +64,8 @@ pub extern "C" fn shoalswift_free(
     ensures answer { λ r. ⌜ (r, now (zone .exit), now (pairs .exit)) ≡ listNumbers (listed.answerOf (freeFound (now (map .entry)) (length (now (list .entry))))) ⌝ }
     ensures list { λ r. ⌜ now (list .exit) ≡ listed.listAfter (now (list .entry)) (freeFound (now (map .entry)) (length (now (list .entry)))) ⌝ }
 {
-    match listing::free(map, list) {
-        Listed::Pairs(n) => {
-            *pairs = n as u64;
-            *zone = 0;
-            0
-        }
-        Listed::Refused(r) => {
-            *pairs = 0;
-            *zone = r.zone;
-            r.number
-        }
-    }
+    let r = listing::free(map, list);
+    pairs_told(r, pairs, zone)
 }
 
 // The disc address of a byte of a file.
@@ -127,18 +107,8 @@ pub extern "C" fn shoalswift_sweep_object(
     ensures answer { λ r. ⌜ (r, now (zone .exit), now (count .exit)) ≡ sweepNumbers (sweepAnswer first (length (now (image .entry))) (objectSweep (now (map .entry)) id first (length (now (image .entry))))) ⌝ }
     ensures image { λ r. ⌜ now (image .exit) ≡ imageAfter first fill (now (image .entry)) (objectSweep (now (map .entry)) id first (length (now (image .entry)))) ⌝ }
 {
-    match reach::sweep_object(map, image, first, fill, id) {
-        Swept::Count(n) => {
-            *count = n;
-            *zone = 0;
-            0
-        }
-        Swept::Refused(r) => {
-            *count = 0;
-            *zone = r.zone;
-            r.number
-        }
-    }
+    let r = reach::sweep_object(map, image, first, fill, id);
+    count_told(r, count, zone)
 }
 
 // Sweeps free space within a stretch of image.
@@ -154,18 +124,8 @@ pub extern "C" fn shoalswift_sweep_free(
     ensures answer { λ r. ⌜ (r, now (zone .exit), now (count .exit)) ≡ sweepNumbers (sweepAnswer first (length (now (image .entry))) (freeSweep (now (map .entry)) first (length (now (image .entry))))) ⌝ }
     ensures image { λ r. ⌜ now (image .exit) ≡ imageAfter first fill (now (image .entry)) (freeSweep (now (map .entry)) first (length (now (image .entry)))) ⌝ }
 {
-    match reach::sweep_free(map, image, first, fill) {
-        Swept::Count(n) => {
-            *count = n;
-            *zone = 0;
-            0
-        }
-        Swept::Refused(r) => {
-            *count = 0;
-            *zone = r.zone;
-            r.number
-        }
-    }
+    let r = reach::sweep_free(map, image, first, fill);
+    count_told(r, count, zone)
 }
 
 // Releases an ordinary object and returns its pairs in object order.
@@ -177,22 +137,12 @@ pub extern "C" fn shoalswift_release(
     pairs: &mut u64,
     zone: &mut u32,
 ) -> u32
-    ensures answer { λ r. ⌜ (r, now (zone .exit), now (pairs .exit)) ≡ listNumbers (released.answerOf (outcome (now (map .entry)) (call.release id (length (now (list .entry)))))) ⌝ }
+    ensures answer { λ r. ⌜ (r, now (zone .exit), now (pairs .exit)) ≡ listNumbers (listed.answerOf (pairsTaken (outcome (now (map .entry)) (call.release id (length (now (list .entry))))))) ⌝ }
     ensures bytes { λ r. ⌜ now (map .exit) ≡ step (now (map .entry)) (call.release id (length (now (list .entry)))) ⌝ }
-    ensures list { λ r. ⌜ now (list .exit) ≡ released.listAfter (now (list .entry)) (outcome (now (map .entry)) (call.release id (length (now (list .entry))))) ⌝ }
+    ensures list { λ r. ⌜ now (list .exit) ≡ listed.listAfter (now (list .entry)) (pairsTaken (outcome (now (map .entry)) (call.release id (length (now (list .entry)))))) ⌝ }
 {
-    match release::release(map, id, list) {
-        Listed::Pairs(n) => {
-            *pairs = n as u64;
-            *zone = 0;
-            0
-        }
-        Listed::Refused(r) => {
-            *pairs = 0;
-            *zone = r.zone;
-            r.number
-        }
-    }
+    let r = release::release(map, id, list);
+    pairs_told(r, pairs, zone)
 }
 
 // Places a list of pieces under an absent id.
@@ -244,6 +194,42 @@ pub extern "C" fn shoalswift_claim(
             *length = 0;
             *zone = r.zone;
             r.number
+        }
+    }
+}
+
+// The number of pairs, or a refusal and its zone.
+fn pairs_told(r: Listed, pairs: &mut u64, zone: &mut u32) -> u32
+    ensures { λ n. ⌜ (n, now (zone .exit), now (pairs .exit)) ≡ listNumbers r ⌝ }
+{
+    match r {
+        Listed::Pairs(n) => {
+            *pairs = n as u64;
+            *zone = 0;
+            0
+        }
+        Listed::Refused(q) => {
+            *pairs = 0;
+            *zone = q.zone;
+            q.number
+        }
+    }
+}
+
+// The number of bytes of the class, or a refusal and its zone.
+fn count_told(r: Swept, count: &mut u64, zone: &mut u32) -> u32
+    ensures { λ n. ⌜ (n, now (zone .exit), now (count .exit)) ≡ sweepNumbers r ⌝ }
+{
+    match r {
+        Swept::Count(n) => {
+            *count = n;
+            *zone = 0;
+            0
+        }
+        Swept::Refused(q) => {
+            *count = 0;
+            *zone = q.zone;
+            q.number
         }
     }
 }

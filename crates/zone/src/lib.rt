@@ -90,7 +90,7 @@ fn id_holds(g: Geometry, free: bool, id: usize) -> bool
     if free {
         return true;
     }
-    both(1 <= id, id < g.ids * g.zones)
+    g.is_id(1, id)
 }
 
 // The disc-end rule for a fragment that ends at block bit `to`: object 1 owns what ends past the disc.

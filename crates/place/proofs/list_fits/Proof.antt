@@ -2,7 +2,7 @@
 use borrow.Author.Needs.{needs}
 use Rattle.place.proofs.ListJudged.{empty-list, odd-list, even-list, fits-ends, bad-pair, bad-order, fits-goes-on}
 use Rattle.place.specs.Parts.{fitsFrom}
-use Rattle.calls.proofs.Invariant.{pair-rule}
+use Rattle.calls.proofs.Invariant.{pair-tested}
 use Rattle.calls.specs.Judge.{pairsFrom}
 use borrow.Author.Tests.{not-true, not-false}
 use lib.ListN.{length, getD, drop}
@@ -72,7 +72,7 @@ order-place-requires c κs =
     let s = e .before .before .before in
     let a = s .args in
     let l = c .before .before .before .before .loop-test .taken in
-    let r = pair-rule (a .g) (pair (getD (a .list .now) (p .loop .i) 0) (getD (a .list .now) (p .loop .i + 1) 0)) (sym (c .before .pair-fits .ensures) ∙ not-false (c .before .pair-fits .result) (c .if3 .left)) in
+    let r = pair-tested (a .g) (pair (getD (a .list .now) (p .loop .i) 0) (getD (a .list .now) (p .loop .i + 1) 0)) (sym (c .before .pair-fits .ensures) ∙ not-false (c .before .pair-fits .result) (c .if3 .left)) in
     (s .pre, omega (arith, r .below))
 
 returns-4 : tie.Need-returns-4 Inv-loop μ-loop

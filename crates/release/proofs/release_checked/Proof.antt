@@ -1,28 +1,20 @@
 -- The refusals 8 and 9, or the rest on a map that edits work on.
 use mathlib.Core.Path.{sym, _∙_}
-use Prim.Native.Nat.{_≤_}
-use native.Mathlib.Nat.{mul-le-mul}
-use native.Mathlib.Omega.{arith}
+use borrow.Author.Tests.{not-true, not-false}
 use Rattle.bits.proofs.Bytes.{all-bytes}
-use Rattle.release.proofs.Answers.{id-below, id-above, id-named, touching-refuses, map-editable}
+use Rattle.release.proofs.Answers.{not-named, touching-refuses, map-editable}
 use borrow.Author.Needs.{needs}
 use Rattle.release.proofs.release_checked.Statement.{statement}
 use Rattle.release.proofs.release_checked.Tie as tie
 
+is-id-requires : tie.Need-is-id-requires
+is-id-requires c κs = search needs
+
 returns : tie.Need-returns
-returns c = let s = c .before .before .before in id-below (s .pre) (s .args .id) (s .args .pairs .now) (c .if1 .taken)
-
-mul-if2 : tie.Need-mul-if2
-mul-if2 c =
-    let s = c .before .before .before .before in
-    let z : s .args .g .zones ≤ 65535 = omega (arith, s .pre .numbers .zones-high) in
-    omega (arith, mul-le-mul (s .pre .numbers .ids-high) z)
-
-returns-2 : tie.Need-returns-2
-returns-2 c =
-    let i = c .before .before in
+returns c =
+    let i = c .before in
     let s = i .before .before .before in
-    id-above (s .pre) (s .args .id) (s .args .pairs .now) (i .if1 .left) (c .if2 .taken)
+    not-named (s .pre) (s .args .id) (s .args .pairs .now) (sym (i .is-id .ensures) ∙ not-true (i .is-id .result) (c .if1 .taken))
 
 first-touching-requires : tie.Need-first-touching-requires
 first-touching-requires c κs = search needs
@@ -37,28 +29,28 @@ release-listed-requires : tie.Need-release-listed-requires
 release-listed-requires c κs =
     let d = c .before .before in
     let f = d .before .before in
-    let j = f .before .before in
-    let i = j .before .before in
+    let e = f .before .before in
+    let i = e .before in
     let k = i .before .before in
     let s = k .before in
     let a = s .args in (
       s .pre,
       map-editable (s .pre) (all-bytes (a .map .now) (λ n. k .slice-known .given n .fits)) (sym (f .first-touching .ensures) ∙ d .enum-told .given .1),
-      id-named (a .g) (a .id) (i .if1 .left) (j .if2 .left),
+      sym (i .is-id .ensures) ∙ not-false (i .is-id .result) (e .if1 .left),
     )
 
 same-length : tie.Need-same-length
 same-length c = search needs
 
-returns-3 : tie.Need-returns-3
-returns-3 c =
+returns-2 : tie.Need-returns-2
+returns-2 c =
     let d = c .before in
     let f = d .before .before in
-    let j = f .before .before in
-    let i = j .before .before in
+    let e = f .before .before in
+    let i = e .before in
     let s = i .before .before .before in
     let a = s .args in
-    touching-refuses (s .pre) (a .id) (a .pairs .now) (id-named (a .g) (a .id) (i .if1 .left) (j .if2 .left)) (d .zone .given .0 .0) (sym (f .first-touching .ensures) ∙ d .zone .given .1)
+    touching-refuses (s .pre) (a .id) (a .pairs .now) (sym (i .is-id .ensures) ∙ not-false (i .is-id .result) (e .if1 .left)) (d .zone .given .0 .0) (sym (f .first-touching .ensures) ∙ d .zone .given .1)
 
 same-length-2 : tie.Need-same-length-2
 same-length-2 c = search needs
@@ -66,22 +58,21 @@ same-length-2 c = search needs
 same-length-3 : tie.Need-same-length-3
 same-length-3 c = search needs
 
-returns-4 : tie.Need-returns-4
-returns-4 c = search needs
+returns-3 : tie.Need-returns-3
+returns-3 c = search needs
 
 pub release-checked-spec : {M : Type 1} → statement M
 release-checked-spec =
     tie.close
     (tie.spec
+    is-id-requires
     returns
-    mul-if2
-    returns-2
     first-touching-requires
     enum-known-zone
     enum-told
     release-listed-requires
     same-length
-    returns-3
+    returns-2
     same-length-2
     same-length-3
-    returns-4)
+    returns-3)

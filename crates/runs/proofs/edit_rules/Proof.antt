@@ -1,0 +1,25 @@
+-- The laws of `EditsRefused`.
+use Rattle.runs.proofs.EditsRefused.{placed-had-room, thirteen-had-none, without-room, never-fourteen, claimed, fifteen-had-none, no-hole}
+use Rattle.runs.proofs.edit_rules.Statement.{statement}
+use Rattle.runs.proofs.edit_rules.Tie as tie
+use Rattle.runs.specs.Editable.{zonesOf}
+use Rattle.runs.proofs.MapAccepted.{map-geometry}
+use Rattle.geometry.specs.Record.{geometryOf}
+use Rattle.calls.proofs.Twelve.{fits-gives-rules, rules-give-fits}
+
+returns : tie.Need-returns
+returns c =
+    record {
+      fits-gives-rules = λ m ed. fits-gives-rules (geometryOf m) (map-geometry m (zonesOf m) (ed .bytes) (ed .accepted));
+      rules-give-fits = λ m ed. rules-give-fits (geometryOf m) (map-geometry m (zonesOf m) (ed .bytes) (ed .accepted));
+      placed-had-room = placed-had-room;
+      thirteen-had-none = thirteen-had-none;
+      without-room = without-room;
+      never-fourteen = never-fourteen;
+      claimed = claimed;
+      fifteen-had-none = fifteen-had-none;
+      no-hole = no-hole;
+    }
+
+pub edit-rules-spec : {M : Type 1} → statement M
+edit-rules-spec = tie.close (tie.spec returns)

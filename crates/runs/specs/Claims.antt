@@ -1,0 +1,31 @@
+-- What a claim takes, in document 01's words ("Claim"). Assumes nothing.
+use mathlib.Core.Path.{_≡_}
+use mathlib.Core.List.{List, []}
+use mathlib.Core.Logic.{_⊎_}
+use Prim.Native.Nat.{ℕ, _+_, _<_, _≤_}
+use Rattle.geometry.specs.Record.{geometryOf}
+use Rattle.model.specs.Chain.{Pair}
+use Rattle.model.specs.Pieces.{freeSpans}
+use Rattle.calls.specs.Judge.{need}
+use Rattle.calls.specs.Room.{In, Earlier}
+use Rattle.runs.specs.Editable.{zonesOf, listedOn}
+
+-- the free spans of a map, as the call `free` lists them: zones from 0, ascending
+abbrev pub spansOn : List ℕ → List Pair
+spansOn m = freeSpans (geometryOf m) 0 (zonesOf m)
+
+-- a claim of so many bytes gives the pair q to an id
+pub record ClaimRules (m : List ℕ) (size id : ℕ) (q : Pair) : Type 0 where
+  -- "The id is the lowest unused one from 3."
+  pub from-3 : 3 ≤ id
+  pub unused : listedOn m id ≡ []
+  pub lowest : (j : ℕ) → 3 ≤ j → j < id → listedOn m j ≡ [] → ⊥
+  -- "Zones from 0, holes ascending: the first hole of length at least need."
+  pub hole : Pair
+  pub free : In hole (spansOn m)
+  pub enough : need (geometryOf m) size ≤ hole .len
+  pub first : (h : Pair) → Earlier h hole (spansOn m) → h .len < need (geometryOf m) size
+  -- "Take need bits from its start, or the whole hole if 1 to m-1 bits would remain."
+  pub start : q .start ≡ hole .start
+  pub whole : need (geometryOf m) size < hole .len → hole .len < need (geometryOf m) size + (geometryOf m) .shortest → q .len ≡ hole .len
+  pub part : (hole .len ≡ need (geometryOf m) size) ⊎ (need (geometryOf m) size + (geometryOf m) .shortest ≤ hole .len) → q .len ≡ need (geometryOf m) size
