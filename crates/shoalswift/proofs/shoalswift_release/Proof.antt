@@ -20,7 +20,7 @@ same-length-2 c = search needs
 returns : tie.Need-returns
 returns c =
     let e = c .before .before .before .before .before .before .before .release .ensures in
-    (c .pairs-told .ensures ∙ ap listNumbers (e .lists .answer), e .bytes, e .lists .list)
+    (c .pairs-told .ensures ∙ ap listNumbers (e .lists .answer), (e .bytes, e .lists .list))
 
 pub shoalswift-release-spec : {M : Type 1} → statement M
 shoalswift-release-spec =
