@@ -1,11 +1,11 @@
 # make            proves the listing program and lists the fragments of a map (MAP=file; map A by default)
 # make test       the gate: layout, then every proof, every must-fail edit and every program
 # make library    the static library for C and Rust
-# make compare    many generated maps through the library and through the second program (SEEDS=n for more), and that the
-#                 stored cases are current
+# make compare    many generated maps through the library, the listing program and the second program (SEEDS=n for more),
+#                 and that the stored cases are current
 # make memcheck   the same on fewer maps, under valgrind
 # make bench      the library's time against the second program's, as ratios
-# make rust       the tests of the Rust binding
+# make rust       the tests of the Rust binding, and that every name in docs/TRACE.md and docs/STATEMENTS.md is there
 # make cases      the stored cases of crate vectors, written again by the second program
 MAP ?= maps/a.map
 SEEDS ?= 40000
@@ -24,8 +24,9 @@ library:
 	rt staticlib shoalswift
 
 compare: library
+	rt check map_lines
 	cd second && cargo build --release --offline -p reference -p compare
-	SEEDS=$(SEEDS) second/target/release/compare
+	SEEDS=$(SEEDS) MAP_LINES=target/bin/map_lines second/target/release/compare
 	mkdir -p second/target/cases
 	second/target/release/cases second/target/cases
 	cmp second/target/cases/stdin crates/vectors/stdin

@@ -73,12 +73,20 @@ table =
     -- Our own rows. B is A with 5 placed, C is A with 4 placed.
     ∷ row (after mapA (place 5 (12 ∷ 20 ∷ []))) mapB
     ∷ row (after mapA (place 4 (24 ∷ 12 ∷ []))) mapC
+    -- A claim edits as a place of its pair: 20 map bits of A for object 3.
+    ∷ row (edit mapA (claim 20480)) (0 ∷ 3 ∷ 12 ∷ 20 ∷ [])
+    ∷ row (after mapA (claim 20480)) (withBytes ((0, 0x08) ∷ (65, 0x38) ∷ []) mapB)
     -- The lowest unused id of B is 3, and its first hole starts after 5.
     ∷ row (edit mapB (claim 12289)) (0 ∷ 3 ∷ 32 ∷ 13 ∷ [])
     -- C has two holes, (12,12) and (36,1500), and object 4: the first hole that is long enough is taken, and the lowest unused id.
     ∷ row (free mapC) (0 ∷ 12 ∷ 12 ∷ 36 ∷ 1500 ∷ [])
     ∷ row (edit mapC (claim 1)) (0 ∷ 3 ∷ 12 ∷ 12 ∷ [])
     ∷ row (edit mapC (claim 12289)) (0 ∷ 3 ∷ 36 ∷ 13 ∷ [])
+    -- Refused maps: no bytes, a disc_size past what the map holds, a zone check that differs.
+    ∷ row (check []) (1 ∷ 0 ∷ [])
+    ∷ row (check (withBytes ((23, 0x01) ∷ []) mapA)) (2 ∷ 0 ∷ [])
+    ∷ row (check (withBytes ((0, 0x28) ∷ []) mapA)) (3 ∷ 0 ∷ [])
+    ∷ row (free (withBytes ((0, 0x28) ∷ []) mapA)) (3 ∷ 0 ∷ [])
     -- Refusals of edits that the rows above leave out, and a list out of object order.
     ∷ row (edit mapB (claim 0)) (12 ∷ 0 ∷ [])
     ∷ row (edit mapB (place 5 (32 ∷ 12 ∷ []))) (11 ∷ 0 ∷ [])

@@ -1,9 +1,16 @@
-// Document 01's bench examples: one table of questions and answers (specs/Table), and one statement over it.
+// Document 01's bench examples: one table of questions and answers (specs/Table), and one statement over it. And what the examples
+// shut out: programs that refuse always, answer always the same, write nothing or everywhere (specs/Empty).
 ghost use mathlib.Core.Path.{_≡_};
 ghost use mathlib.Core.List.{map};
 ghost use Rattle.bench.specs.Table.{table, answered, expected};
+ghost use Rattle.bench.specs.Empty.{EmptyPrograms};
 
 // Every row of the table is answered as document 01 has it, as a contract: the function does nothing.
 pub fn bench_examples()
     ensures { λ _. ⌜ map answered table ≡ map expected table ⌝ }
+{}
+
+// No empty program meets the contracts, as a contract: the function does nothing.
+pub fn empty_programs()
+    ensures { λ _. ⌜ EmptyPrograms ⌝ }
 {}

@@ -3,5 +3,5 @@ pub mod Below
 pub mod Digits
 pub mod Bytes
 pub mod Stored
-pub mod Runs
+pub mod BitRuns
 pub mod Xor

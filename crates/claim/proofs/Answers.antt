@@ -29,7 +29,7 @@ use Rattle.calls.proofs.ClaimFits.{first-in}
 use Rattle.calls.proofs.Fourteen.{no-fourteen}
 use Rattle.runs.specs.Steps.{Outcome, refused, touching, discOf, byTouching, byRead, outcome, bytesAfter, step}
 use Rattle.runs.specs.Editable.{zonesOf, zonesIn, Editable, piecesOn}
-use Rattle.runs.proofs.Given.{given-placed}
+use Rattle.runs.proofs.PairsGiven.{given-placed}
 use Rattle.runs.proofs.MapAccepted.{map-disc}
 use Rattle.runs.proofs.RunsOnBytes.{step-refused, step-accepted}
 use Rattle.holes.proofs.ZonesTouching.{zones-are}

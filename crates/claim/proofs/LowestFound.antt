@@ -20,7 +20,7 @@ use Rattle.model.specs.Chain.{Holder, free, owned, Entry}
 use Rattle.model.specs.Rules.{zoneBlock}
 use Rattle.model.specs.Pieces.{Piece, ownedIf, ownedOf, pieceToDisc, piecesOfZones, piecesOf}
 use Rattle.zone.specs.Lines.{entriesIn, holderNumber}
-use Rattle.zone.proofs.ReadParts.{is-read}
+use Rattle.zone.proofs.EntriesRead.{is-read}
 use Rattle.map.specs.Accepted.{AcceptedMap}
 use Rattle.listing.proofs.HeldZones.{ReadInTurn, zones-in-turn}
 use Rattle.calls.specs.Judge.{isEmpty, lowest}

@@ -1,5 +1,5 @@
 pub mod Rules
 pub mod Numbers
-pub mod Bits
+pub mod DiscBits
 pub mod Starts
-pub mod Read
+pub mod RecordAnswers

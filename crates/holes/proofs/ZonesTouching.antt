@@ -14,7 +14,7 @@ use Rattle.model.specs.Chain.{Entry, noneTouch}
 use Rattle.model.specs.Rules.{zoneBlock}
 use Rattle.model.proofs.Options.{none-some}
 use Rattle.zone.specs.Lines.{entriesIn}
-use Rattle.zone.proofs.ReadParts.{is-read}
+use Rattle.zone.proofs.EntriesRead.{is-read}
 use Rattle.map.specs.Accepted.{AcceptedMap}
 use Rattle.listing.proofs.HeldZones.{ReadInTurn, zones-in-turn}
 use Rattle.runs.specs.Steps.{touching}

@@ -43,6 +43,13 @@ pub apart-at : {q : Pair} {i : ℕ} {qs : List Pair} (at end : ℕ) → At q i q
 apart-at {q} {i} at end (first {qs = qs}) k = (k .0, k .1, apart-le (q .start + q .len) end qs (k .2))
 apart-at at end (later {p = p} v) k = let r = apart-at (p .start + p .len) end v (k .2) in (omega (arith, k .0, r .0), r .1, r .2)
 
+-- and the earlier of two ends before the later starts
+pub apart-in-turn : {p q : Pair} {i j : ℕ} {qs : List Pair} (at end : ℕ) → i < j → At p i qs → At q j qs → Apart at end qs → p .start + p .len ≤ q .start
+apart-in-turn at end h first first k = absurd (omega arith)
+apart-in-turn {p} at end h first (later w) k = apart-at (p .start + p .len) end w (k .2) .0
+apart-in-turn at end h (later v) first k = absurd (omega arith)
+apart-in-turn at end h (later {p = r} v) (later w) k = apart-in-turn (r .start + r .len) end (omega arith) v w (k .2)
+
 -- what a holder has of entries that fill a stretch
 fills-apart : (h at end : ℕ) (es : List Entry) → Fills at end es → Apart at end (heldBy h es)
 fills-apart h at end [] f = omega arith

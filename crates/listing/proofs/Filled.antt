@@ -9,7 +9,7 @@ use native.Mathlib.Omega.{arith}
 use lib.ListN.{length}
 use Rattle.geometry.specs.declared.Geometry.{Geometry}
 use Rattle.geometry.specs.Places.{firstBit, endBit, discBit, zoneFrom, discBits}
-use Rattle.geometry.proofs.Bits.{first-of-zero, first-of-other, first-low, from-zero-on}
+use Rattle.geometry.proofs.DiscBits.{first-of-zero, first-of-other, first-low, from-zero-on}
 use Rattle.model.specs.Fragments.{Fragment}
 use Rattle.model.specs.Chain.{Entry, onward, follow}
 use Rattle.model.specs.Blocks.{linkIn, allocBits}
@@ -22,7 +22,7 @@ use Rattle.model.proofs.ZoneDrawn.{length-frags, long-fit}
 use Rattle.model.proofs.ZoneTests.{zone-tests}
 use Rattle.zone.specs.Lines.{entriesIn}
 use Rattle.zone.proofs.AllocBits.{first-high, ZoneBlock, bits-left, alloc-all}
-use Rattle.zone.proofs.ReadParts.{is-read}
+use Rattle.zone.proofs.EntriesRead.{is-read}
 use Rattle.map.specs.Accepted.{AcceptedMap}
 use Rattle.listing.specs.HeldBy.{ReadZone}
 use Rattle.listing.proofs.HeldZones.{ReadInTurn, zones-in-turn, zone-reads}

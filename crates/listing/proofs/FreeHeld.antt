@@ -15,7 +15,7 @@ use Rattle.model.specs.Verdict.{sound, zoneRead, every, holderFits, idFits, end
 use Rattle.model.specs.Pieces.{toDisc, freeIf, freeOf, freeSpans}
 use Rattle.model.proofs.ZoneTests.{zone-tests}
 use Rattle.zone.specs.Lines.{entriesIn, holderNumber}
-use Rattle.zone.proofs.ReadParts.{is-read}
+use Rattle.zone.proofs.EntriesRead.{is-read}
 use Rattle.map.specs.Accepted.{AcceptedMap}
 use Rattle.listing.specs.HeldBy.{heldBy, inDiscBits, heldIn, heldFrom}
 use Rattle.listing.proofs.HeldZones.{held-turn, held-end, ReadInTurn, zones-in-turn}

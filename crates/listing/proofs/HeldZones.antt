@@ -16,8 +16,8 @@ use Rattle.model.specs.Rules.{zoneBlock}
 use Rattle.model.specs.Verdict.{sound, zoneRead}
 use Rattle.model.proofs.ByPlace.{block-length}
 use Rattle.zone.specs.Lines.{entriesIn, IsRead}
-use Rattle.zone.proofs.ReadParts.{is-read}
-use Rattle.zone.proofs.Few.{few}
+use Rattle.zone.proofs.EntriesRead.{is-read}
+use Rattle.zone.proofs.FewFragments.{few}
 use Rattle.map.specs.Accepted.{AcceptedMap}
 use Rattle.map.proofs.Accepts.{ReadFrom, from-start, from-turn, from-end}
 use Rattle.listing.specs.HeldBy.{ReadZone, heldBy, heldIn, heldFrom}

@@ -8,4 +8,5 @@ pub mod ObjectOrder
 pub mod Answers
 pub mod Hits
 pub mod Cover
+pub mod InTurn
 pub mod Laws

@@ -11,13 +11,13 @@ use borrow.Author.Tests.{le-leb, lt-leb, ltb-true, ltb-false, ne-eqb}
 use Rattle.bits.proofs.Tests.{by-test}
 use Rattle.geometry.specs.declared.Geometry.{Geometry}
 use Rattle.geometry.specs.Places.{firstBit, endBit, discBit, zoneOf, startZone}
-use Rattle.geometry.proofs.Bits.{zone-of-disc}
+use Rattle.geometry.proofs.DiscBits.{zone-of-disc}
 use Rattle.model.specs.Chain.{Pair, Holder, free, owned, Entry}
 use Rattle.model.specs.Rules.{zoneBlock}
 use Rattle.model.specs.Pieces.{Piece, keep, ownedIf, ownedOf, toDisc, pieceToDisc, piecesOfZones, isOf, piecesOf, late, objectPairs}
 use Rattle.model.proofs.Lists.{keep-append}
 use Rattle.zone.specs.Lines.{entriesIn, holderNumber}
-use Rattle.zone.proofs.ReadParts.{is-read}
+use Rattle.zone.proofs.EntriesRead.{is-read}
 use Rattle.map.specs.Accepted.{AcceptedMap}
 use Rattle.listing.specs.HeldBy.{heldBy, inDiscBits, heldIn, heldFrom}
 use Rattle.listing.proofs.HeldZones.{held-turn, held-end, ReadInTurn, zones-in-turn}

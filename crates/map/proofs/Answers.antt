@@ -15,7 +15,7 @@ use Rattle.geometry.specs.declared.RecordRead.the-variants as read
 use Rattle.geometry.specs.Record.{discRecord, geometryOf}
 use Rattle.geometry.specs.Ranges.{recordFits}
 use Rattle.geometry.specs.Answers.{refusal, recordOf}
-use Rattle.geometry.proofs.Read.{accepted-says, refused-says}
+use Rattle.geometry.proofs.RecordAnswers.{accepted-says, refused-says}
 use Rattle.model.specs.Verdict.{MapRead, refused, entries, zonesRead, differing, crossSum, afterChecks, blocksRead, blocksOf}
 use Rattle.map.specs.Checked.{answer, checked, firstDiffering}
 use Rattle.map.specs.declared.Checked.the-variants.{Accepted, Refused}

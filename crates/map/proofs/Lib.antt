@@ -1,5 +1,5 @@
-pub mod Sums
-pub mod Zones
+pub mod ChecksByZone
+pub mod ZonesJudged
 pub mod Answers
 pub mod Accepts
 pub mod ZonesKept

@@ -9,10 +9,10 @@ use Rattle.model.specs.Verdict.{sound, zoneRead}
 use Rattle.model.specs.Rules.{zoneBlock, ZoneRules}
 use Rattle.model.specs.Table.{judgementOf}
 use Rattle.model.proofs.MapJudged.{accepted-keeps-rules}
-use Rattle.model.proofs.Zones.{rules-read}
+use Rattle.model.proofs.ZoneJudged.{rules-read}
 use Rattle.model.proofs.ByPlace.{block-length}
 use Rattle.zone.specs.Lines.{entriesOf, entriesIn, IsRead}
-use Rattle.zone.proofs.Few.{few}
+use Rattle.zone.proofs.FewFragments.{few}
 use Rattle.map.specs.Accepted.{AcceptedMap}
 
 module _ (m : List ℕ) (g : Geometry) (a : AcceptedMap m g) (z : ℕ) (h : z < g .zones) where

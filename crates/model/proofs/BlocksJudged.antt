@@ -21,8 +21,8 @@ use Rattle.model.specs.Verdict.{ZoneRead, sound, MapRead, entries, joinZ
 use Rattle.model.specs.Verdict as read
 use Rattle.model.specs.Table.{judgementOf, ZoneFault, Measured, CheckedBelow, RuledBelow, Judged, check-differs, cross-differs, zone-fault, kept}
 use Rattle.model.proofs.ByPlace.{restFrom, rest-all, rest-none, rest-cons}
-use Rattle.model.proofs.Zones.{ZoneSays, zone-says, no-fault, one-fault}
-use Rattle.model.proofs.Zones as zones
+use Rattle.model.proofs.ZoneJudged.{ZoneSays, zone-says, no-fault, one-fault}
+use Rattle.model.proofs.ZoneJudged as zones
 
 -- the lowest place at which something fails is one
 lowest-same : (P : ℕ → Type 0) (x y : ℕ) → ((i : ℕ) → i < x → P i) → (P x → ⊥) → ((i : ℕ) → i < y → P i) → (P y → ⊥) → x ≡ y

@@ -6,7 +6,7 @@ pub mod ZoneDrawn
 pub mod Landing
 pub mod Holders
 pub mod Owners
-pub mod Zones
+pub mod ZoneJudged
 pub mod ByPlace
 pub mod BlocksJudged
 pub mod MapJudged

@@ -13,7 +13,7 @@ use Rattle.bits.proofs.Tests.{by-test, both, and-true, either, or-left, or-righ
 use Rattle.geometry.specs.declared.Geometry.{Geometry}
 use Rattle.geometry.specs.Accepted.{AcceptedGeometry}
 use Rattle.geometry.specs.Places.{firstBit, discBit, idFrom}
-use Rattle.geometry.proofs.Bits.{first-low, from-zero-on}
+use Rattle.geometry.proofs.DiscBits.{first-low, from-zero-on}
 use Rattle.model.specs.Fragments.{Fragment}
 use Rattle.model.specs.Chain.{free, owned, Entry, entry, onward, StartsAt, here, later, OnChain, first, follow}
 use Rattle.model.specs.Blocks.{linkIn}

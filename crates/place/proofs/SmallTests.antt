@@ -11,7 +11,7 @@ use borrow.Author.Tests.{eq-eqb, ne-eqb, lt-ltb, le-ltb, le-leb, lt-leb}
 use Rattle.geometry.specs.declared.Geometry.{Geometry}
 use Rattle.geometry.specs.Accepted.{AcceptedGeometry}
 use Rattle.geometry.specs.Places.{zoneOf, zoneFrom, zoneEnd, discBits}
-use Rattle.geometry.proofs.Bits.{map-bits-low}
+use Rattle.geometry.proofs.DiscBits.{map-bits-low}
 use Rattle.calls.specs.Holes.{gapFits}
 use Rattle.calls.proofs.Invariant.{some-zone}
 use Rattle.place.specs.Parts.{orderPlace}

@@ -13,7 +13,7 @@ use Rattle.bits.proofs.Tests.{both}
 use Rattle.geometry.specs.declared.Geometry.{Geometry}
 use Rattle.geometry.specs.Accepted.{AcceptedGeometry}
 use Rattle.geometry.specs.Places.{zoneFrom, zoneEnd}
-use Rattle.geometry.proofs.Bits.{zone-bits-small}
+use Rattle.geometry.proofs.DiscBits.{zone-bits-small}
 use Rattle.model.specs.Chain.{Pair, Holder, free, owned, Entry}
 use Rattle.model.specs.Pieces.{Piece, ownedIf, ownedOf, pieceToDisc}
 use Rattle.model.specs.Verdict.{every, holderFits, idFits}

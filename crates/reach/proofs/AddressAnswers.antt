@@ -16,7 +16,7 @@ use Rattle.geometry.specs.declared.Start.the-variants as start
 use Rattle.geometry.specs.Record.{geometryOf}
 use Rattle.geometry.specs.Places.{idFrom, startZone, discBits}
 use Rattle.geometry.specs.Answers.{refusal, startOf}
-use Rattle.geometry.proofs.Bits.{disc-bits-small}
+use Rattle.geometry.proofs.DiscBits.{disc-bits-small}
 use Rattle.geometry.proofs.Starts.{start-in-range, named, not-named}
 use Rattle.model.specs.Chain.{Pair}
 use Rattle.model.specs.Verdict.{mapRead}

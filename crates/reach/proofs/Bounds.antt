@@ -9,7 +9,7 @@ use borrow.Author.Tests.{lt-ltb, le-ltb, ltb-true, ltb-false, eq-eqb, ne-eqb}
 use Rattle.bits.proofs.Tests.{by-test}
 use Rattle.geometry.specs.declared.Geometry.{Geometry}
 use Rattle.geometry.specs.Accepted.{AcceptedGeometry}
-use Rattle.geometry.proofs.Bits.{disc-bits-small}
+use Rattle.geometry.proofs.DiscBits.{disc-bits-small}
 use Rattle.reach.specs.Address.{startOffset}
 
 -- so many map bits, at most 4,096 bytes each

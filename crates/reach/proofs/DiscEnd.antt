@@ -12,7 +12,7 @@ use borrow.Author.Tests.{eqb-true, leb-true, ltb-true}
 use Rattle.bits.proofs.Tests.{by-test, both, either}
 use Rattle.geometry.specs.declared.Geometry.{Geometry}
 use Rattle.geometry.specs.Places.{firstBit, endBit, discBit}
-use Rattle.geometry.proofs.Bits.{from-zero-on}
+use Rattle.geometry.proofs.DiscBits.{from-zero-on}
 use Rattle.model.specs.Chain.{Pair, Holder, free, owned, Entry}
 use Rattle.model.specs.Rules.{zoneBlock}
 use Rattle.model.specs.Verdict.{sound, zoneRead, every, isOwned, idFits, endFits, firstOwned}

@@ -11,4 +11,5 @@ pub mod Joined
 pub mod SweptLaws
 pub mod OneToOne
 pub mod DiscEnd
+pub mod SweptReached
 pub mod Laws

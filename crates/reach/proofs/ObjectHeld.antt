@@ -13,7 +13,7 @@ use Rattle.model.specs.Rules.{zoneBlock}
 use Rattle.model.specs.Pieces.{ownedIf, ownedOf, toDisc, pieceToDisc, piecesOfZones, isOf, piecesOf}
 use Rattle.model.proofs.Lists.{keep-append}
 use Rattle.zone.specs.Lines.{entriesIn}
-use Rattle.zone.proofs.ReadParts.{is-read}
+use Rattle.zone.proofs.EntriesRead.{is-read}
 use Rattle.map.specs.Accepted.{AcceptedMap}
 use Rattle.listing.specs.HeldBy.{heldBy, inDiscBits, heldFrom}
 use Rattle.listing.proofs.HeldZones.{held-turn, held-end, ReadInTurn, zones-in-turn}

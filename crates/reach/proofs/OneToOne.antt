@@ -32,7 +32,7 @@ module _ (unit : ℕ) (some : 0 < unit) where
       let w : Within q d = (le-div-iff-mul-le some .1 (omega arith), div-lt-iff-lt-mul some .1 (omega arith)) in
       omega (arith, hit-at d q 0 (q ∷ []) first w)
 
-  seek-hit : (qs : List Pair) (i a : ℕ) → seek unit qs i ≡ at a → 0 < hits (a / unit) qs
+  pub seek-hit : (qs : List Pair) (i a : ℕ) → seek unit qs i ≡ at a → 0 < hits (a / unit) qs
   seek-hit [] i a e = absurd (never-at i a e)
   seek-hit (q ∷ qs) i a e =
       by-test (ltb i (q .len * unit))

@@ -1,16 +1,15 @@
 -- What holds of addresses and sweeps on an accepted map (demand 2). Assumes nothing.
 use mathlib.Core.Path.{_≡_}
-use mathlib.Core.Bool.{Bool, true, false, cond}
-use mathlib.Core.List.{List, [], _∷_, _++_, map}
-use Prim.Native.Nat.{ℕ, zero, suc, _+_, _*_, _<_, _≤_}
+use mathlib.Core.Bool.{true, false, cond}
+use mathlib.Core.List.{List, [], _∷_, _++_}
+use Prim.Native.Nat.{ℕ, zero, suc, _+_, _*_, _<_}
 use lib.ListN.{length, getD}
-use Rattle.geometry.specs.declared.Geometry.{Geometry}
 use Rattle.geometry.specs.Record.{geometryOf}
 use Rattle.model.specs.Chain.{Pair, Entry}
 use Rattle.model.specs.Verdict.{entries, mapRead}
-use Rattle.model.specs.Pieces.{piecesOfZones, objectPairs}
+use Rattle.model.specs.Pieces.{piecesOfZones, objectPairs, freeSpans}
 use Rattle.reach.specs.Address.{seek, at}
-use Rattle.reach.specs.Sweep.{covers, sweptBytes, coveredCount}
+use Rattle.reach.specs.Sweep.{covers, sweptBytes, coveredCount, objectSpans}
 
 -- the addresses of pieces joined in order, one after another
 abbrev pub addressesFrom : ℕ → ℕ → List ℕ
@@ -31,6 +30,13 @@ pub record ReachLaws : Type 0 where
   -- an object other than 1 lies on the disc
   pub on-disc : (m : List ℕ) (ess : List (List Entry)) → mapRead m ≡ entries ess → (id i a : ℕ) → (id ≡ 1 → ⊥) → let g = geometryOf m in
       seek (g .unit) (objectPairs g id (piecesOfZones g 0 ess)) i ≡ at a → a < g .size
+  -- the sweep of an object covers exactly the addresses of its bytes, and that of free space none of them
+  pub swept-is-reached : (m : List ℕ) (ess : List (List Entry)) → mapRead m ≡ entries ess → (id a : ℕ) → let g = geometryOf m in
+      covers (g .unit) (objectSpans g id ess) a ≡ true → (i : ℕ) × (seek (g .unit) (objectPairs g id (piecesOfZones g 0 ess)) i ≡ at a)
+  pub reached-is-swept : (m : List ℕ) (ess : List (List Entry)) → mapRead m ≡ entries ess → (id i a : ℕ) → let g = geometryOf m in
+      seek (g .unit) (objectPairs g id (piecesOfZones g 0 ess)) i ≡ at a → covers (g .unit) (objectSpans g id ess) a ≡ true
+  pub free-not-reached : (m : List ℕ) (ess : List (List Entry)) → mapRead m ≡ entries ess → (id i a : ℕ) → let g = geometryOf m in
+      seek (g .unit) (objectPairs g id (piecesOfZones g 0 ess)) i ≡ at a → covers (g .unit) (freeSpans g 0 ess) a ≡ false
   -- "writes the fill at each address of that class within the stretch, nowhere else"
   pub swept-byte : (unit : ℕ) (qs : List Pair) (fill a : ℕ) (image : List ℕ) (i : ℕ) → i < length image
       → getD (sweptBytes unit qs fill a image) i 0 ≡ cond (covers unit qs (a + i)) fill (getD image i 0)

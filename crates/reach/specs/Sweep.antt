@@ -10,7 +10,7 @@ use Rattle.geometry.specs.declared.Geometry.{Geometry}
 use Rattle.geometry.specs.Record.{geometryOf}
 use Rattle.geometry.specs.Places.{idFrom}
 use Rattle.geometry.specs.Answers.{refusal}
-use Rattle.model.specs.Chain.{Pair}
+use Rattle.model.specs.Chain.{Pair, Entry}
 use Rattle.model.specs.Verdict.{MapRead, mapRead}
 use Rattle.model.specs.Verdict as read
 use Rattle.model.specs.Pieces.{Piece, piecesOfZones, piecesOf, freeSpans}
@@ -49,10 +49,14 @@ abbrev pub ofObject : Geometry → ℕ → ℕ → List Pair → ClassFound
 ofObject g first n [] = refused 10 0
 ofObject g first n (q ∷ qs) = onDisc g first n (q ∷ qs)
 
+-- an object's pairs, from zone 0 on: to a sweep their order is nothing
+abbrev pub objectSpans : Geometry → ℕ → List (List Entry) → List Pair
+objectSpans g id ess = map (λ (p : Piece). p .at) (piecesOf id (piecesOfZones g 0 ess))
+
 abbrev pub objectClass : Geometry → ℕ → ℕ → ℕ → MapRead → ClassFound
 objectClass g id first n (read.refused k z) = refused k z
 objectClass g id first n (read.entries ess) =
-    cond (idFrom 3 g id) (ofObject g first n (map (λ (p : Piece). p .at) (piecesOf id (piecesOfZones g 0 ess)))) (refused 8 0)
+    cond (idFrom 3 g id) (ofObject g first n (objectSpans g id ess)) (refused 8 0)
 
 abbrev pub freeClass : Geometry → ℕ → ℕ → MapRead → ClassFound
 freeClass g first n (read.refused k z) = refused k z

@@ -31,7 +31,7 @@ use Rattle.runs.specs.Editable.{zonesOf, Editable, piecesOn}
 use Rattle.runs.specs.Claims.{spansOn, ClaimRules}
 use Rattle.runs.proofs.MapAccepted.{map-geometry, map-disc}
 use Rattle.runs.proofs.HolesSpans.{holes-are-spans}
-use Rattle.runs.proofs.Given.{lowest-least, none-listed}
+use Rattle.runs.proofs.PairsGiven.{lowest-least, none-listed}
 
 -- no id before the one found is unused
 lowest-first : (l : List Piece) (n id i : ℕ) → lowest l n id ≡ some i → (j : ℕ) → id ≤ j → j < i → piecesOf j l ≡ [] → ⊥

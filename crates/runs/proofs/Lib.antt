@@ -25,7 +25,7 @@ pub mod ZonesAfter
 pub mod BitsKept
 pub mod EditsOf
 pub mod EveryRun
-pub mod Given
+pub mod PairsGiven
 pub mod StepLaws
 pub mod ClaimsJudged
 pub mod EditsRefused

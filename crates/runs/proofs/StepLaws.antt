@@ -30,7 +30,7 @@ use Rattle.runs.proofs.ZonesAfter.{zone-untouched}
 use Rattle.runs.proofs.BitsKept.{outside-kept}
 use Rattle.runs.proofs.EditsOf.{judged-done}
 use Rattle.runs.proofs.EveryRun.{reads-listed, reads-editable}
-use Rattle.runs.proofs.Given.{none-listed, given-facts, given-placed}
+use Rattle.runs.proofs.PairsGiven.{none-listed, given-facts, given-placed}
 
 pub refused-keeps : (m : List ℕ) (c : Call) (n z : ℕ) → outcome m c ≡ refused n z → step m c ≡ m
 refused-keeps m c n z h = ap (bytesAfter m) h

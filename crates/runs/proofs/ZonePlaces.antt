@@ -12,7 +12,7 @@ use Rattle.bits.proofs.Tests.{by-test}
 use Rattle.geometry.specs.declared.Geometry.{Geometry}
 use Rattle.geometry.specs.Accepted.{AcceptedGeometry}
 use Rattle.geometry.specs.Places.{firstBit, endBit, discBit, zoneOf, zoneFrom, zoneEnd}
-use Rattle.geometry.proofs.Bits.{first-low, from-zero-on, zone-of-disc}
+use Rattle.geometry.proofs.DiscBits.{first-low, from-zero-on, zone-of-disc}
 use Rattle.model.specs.Pieces.{Piece, pieceToDisc}
 use Rattle.model.proofs.ChainDrawn.{Lies}
 use Rattle.model.proofs.ZoneDrawn.{lies-le}

@@ -14,7 +14,7 @@ use Rattle.bits.proofs.Tests.{by-test, both, and-true, either, or-left, or-righ
 use Rattle.geometry.specs.declared.Geometry.{Geometry}
 use Rattle.geometry.specs.Accepted.{AcceptedGeometry}
 use Rattle.geometry.specs.Places.{firstBit, endBit, discBit, blockBit, zoneFrom, zoneEnd}
-use Rattle.geometry.proofs.Bits.{first-low}
+use Rattle.geometry.proofs.DiscBits.{first-low}
 use Rattle.model.specs.Chain.{Entry, onward, follow}
 use Rattle.model.specs.Blocks.{freeLink}
 use Rattle.model.specs.Pieces.{Piece}

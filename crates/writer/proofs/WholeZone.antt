@@ -12,7 +12,7 @@ use Rattle.bits.specs.Bits.{byteBits, Bytes}
 use Rattle.checks.specs.Cross.{crossOf}
 use Rattle.geometry.specs.declared.Geometry.{Geometry}
 use Rattle.geometry.specs.Places.{firstBit, endBit}
-use Rattle.geometry.proofs.Bits.{first-low}
+use Rattle.geometry.proofs.DiscBits.{first-low}
 use Rattle.model.specs.Fragments.{fragmentsIn}
 use Rattle.model.specs.Chain.{Pair, Entry, onward}
 use Rattle.model.specs.Blocks.{linkIn}

@@ -16,7 +16,7 @@ use Rattle.fragment.proofs.FoundCut.{FoundWhole, FoundBroken, found-whole, foun
 use Rattle.geometry.specs.declared.Geometry.{Geometry}
 use Rattle.geometry.specs.Accepted.{AcceptedGeometry}
 use Rattle.geometry.specs.Places.{firstBit, endBit}
-use Rattle.geometry.proofs.Bits.{first-of-zero, first-of-other}
+use Rattle.geometry.proofs.DiscBits.{first-of-zero, first-of-other}
 use Rattle.model.specs.Blocks.{allocBits}
 
 header-bits : (b : List ℕ) → 4 ≤ length b → byteBits (drop 4 b) ≡ drop 32 (byteBits b)

@@ -1,6 +1,6 @@
 pub mod AllocBits
 pub mod JudgeWalk
-pub mod ReadParts
+pub mod EntriesRead
 pub mod ListWalk
-pub mod Few
+pub mod FewFragments
 pub mod LineThrees

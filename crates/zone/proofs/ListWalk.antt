@@ -28,7 +28,7 @@ use Rattle.model.proofs.ZoneTests.{zone-tests}
 use Rattle.zone.specs.Walk.{holderOf}
 use Rattle.zone.specs.Lines.{entriesIn, IsRead, holderNumber, lines}
 use Rattle.zone.proofs.AllocBits.{ZoneBlock, alloc-all, whole-cuts, broken-cuts, whole-fits, bits-after}
-use Rattle.zone.proofs.ReadParts.{chain-parts}
+use Rattle.zone.proofs.EntriesRead.{chain-parts}
 
 pub three-stored : (l : List ℕ) (i a b c : ℕ) → i + 3 ≤ length l → set (set (set l i a) (i + 1) b) (i + 2) c ≡ take i l ++ (a ∷ b ∷ c ∷ []) ++ drop (i + 3) l
 three-stored l i a b c h = rw (add-one, add-two) (sets-eq (a ∷ b ∷ c ∷ []) l i h)

@@ -3,20 +3,26 @@
 //!
 //! SEEDS names the seeds: `N` for 0 to N-1, or `A..B` for A to B-1. If TRACE
 //! is set, each call is named before it is made, to find one that never
-//! returns.
+//! returns. If MAP_LINES names the product's small program, that is run on the
+//! first map of some of the seeds.
 
 use std::env;
 use std::process::ExitCode;
 
 #[path = "../../../rust/src/declared.rs"]
 mod declared;
+mod program;
 
 use declared::*;
+use program::Program;
 use reference::case::{Call, Case, Outcome, CALLS};
 use reference::generate::{play, Sizes};
 
 /// Guard bytes or entries before and after what is lent.
 const GUARD: usize = 72;
+
+/// One seed in so many has its first map listed by the small program.
+const LISTED: u64 = 20;
 
 /// A lent slice with a guard on both sides.
 struct Lent<T> {
@@ -267,6 +273,14 @@ fn main() -> ExitCode {
     };
 
     let trace = env::var_os("TRACE").is_some();
+    let mut program = env::var("MAP_LINES").ok().map(|path| Program {
+        path,
+        runs: 0,
+        differences: 0,
+    });
+    if let Some(program) = &mut program {
+        program.compare_fixed().expect("the small program runs");
+    }
 
     let mut compared = [[0u64; 18]; 10];
     let mut differences = 0u64;
@@ -276,6 +290,11 @@ fn main() -> ExitCode {
         play(seed, &sizes, &mut |case, ours| {
             if trace {
                 eprintln!("seed {seed}, call {step} of it: {}", case.call.name());
+            }
+            if let (Some(program), 0, 0) = (&mut program, step, seed % LISTED) {
+                let name = format!("the first map of seed {seed}");
+                let told = program.compare(&name, &case.map);
+                told.expect("the small program runs");
             }
             let (theirs, kept) = run_product(case, (step % 8) as usize);
             compared[case.call as usize][ours.number as usize] += 1;
@@ -312,6 +331,10 @@ fn main() -> ExitCode {
             println!("refusal {number} was never reached");
             good = false;
         }
+    }
+    if let Some(program) = &program {
+        println!("{} maps listed by the small program", program.runs);
+        good &= program.differences == 0;
     }
     if good {
         println!("every answer and every lent byte agree");

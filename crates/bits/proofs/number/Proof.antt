@@ -8,7 +8,7 @@ use lib.Pow.{pow-pos}
 use native.Mathlib.Omega.{arith}
 use Rattle.bits.specs.Bits.{byteBits, value}
 use Rattle.bits.proofs.Bytes.{length-byte-bits}
-use Rattle.bits.proofs.Runs.{value-end, value-more, grow, small}
+use Rattle.bits.proofs.BitRuns.{value-end, value-more, grow, small}
 use borrow.Author.Needs.{needs}
 use Rattle.bits.proofs.number.Statement.{statement}
 use Rattle.bits.proofs.number.Tie as tie

@@ -6,7 +6,7 @@ use lib.Seq.{slice}
 use native.Mathlib.Omega.{arith}
 use Rattle.bits.specs.Bits.{byteBits, zeros}
 use Rattle.bits.proofs.Bytes.{length-byte-bits}
-use Rattle.bits.proofs.Runs.{zeros-stop, zeros-more, zeros-end}
+use Rattle.bits.proofs.BitRuns.{zeros-stop, zeros-more, zeros-end}
 use borrow.Author.Needs.{needs}
 use Rattle.bits.proofs.zero_run.Statement.{statement}
 use Rattle.bits.proofs.zero_run.Tie as tie

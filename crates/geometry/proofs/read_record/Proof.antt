@@ -7,7 +7,7 @@ use Rattle.geometry.specs.Record.{discRecord}
 use Rattle.geometry.specs.Accepted.{SmallNumbers}
 use Rattle.geometry.proofs.Rules.{test-gives-fields}
 use Rattle.geometry.proofs.Numbers.{fields-give-small}
-use Rattle.geometry.proofs.Read.{Taken, geometry-is, fields-decide, geometry-decides, read-short, read-outside, read-accepted}
+use Rattle.geometry.proofs.RecordAnswers.{Taken, geometry-is, fields-decide, geometry-decides, read-short, read-outside, read-accepted}
 use borrow.Author.Needs.{needs}
 use Rattle.geometry.proofs.read_record.Statement.{statement}
 use Rattle.geometry.proofs.read_record.Tie as tie

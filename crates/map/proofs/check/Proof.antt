@@ -3,7 +3,7 @@ use mathlib.Core.Path.{sym, _∙_}
 use Prim.Native.Nat.{_≤_}
 use native.Mathlib.Nat.{mul-le-mul}
 use native.Mathlib.Omega.{arith}
-use Rattle.geometry.proofs.Read.{accepted-geometry}
+use Rattle.geometry.proofs.RecordAnswers.{accepted-geometry}
 use Rattle.map.proofs.Answers.{record-refused, length-refused, blocks-answer}
 use borrow.Author.Needs.{needs}
 use Rattle.map.proofs.check.Statement.{statement}

@@ -5,7 +5,7 @@ use native.Mathlib.Omega.{arith}
 use lib.Bits.{bitXor}
 use Rattle.model.specs.Verdict.{crossSum}
 use Rattle.model.proofs.ByPlace.{restFrom, rest-all, zone-end, block-length}
-use Rattle.map.proofs.Sums.{cross-turn, cross-none}
+use Rattle.map.proofs.ChecksByZone.{cross-turn, cross-none}
 use borrow.Author.Needs.{needs}
 use Rattle.map.proofs.cross_checks.Statement.{statement}
 use Rattle.map.proofs.cross_checks.Tie as tie

@@ -3,7 +3,7 @@ use Prim.Native.Nat.{_-_, _≤_}
 use mathlib.Core.Path.{_≡_, sym, _∙_}
 use native.Mathlib.Omega.{arith}
 use Rattle.model.proofs.ByPlace.{zone-end, block-length}
-use Rattle.map.proofs.Zones.{answerFrom, zones-turn, zones-stop, zones-end, zones-all}
+use Rattle.map.proofs.ZonesJudged.{answerFrom, zones-turn, zones-stop, zones-end, zones-all}
 use borrow.Author.Needs.{needs}
 use Rattle.map.proofs.judge_zones.Statement.{statement}
 use Rattle.map.proofs.judge_zones.Tie as tie

@@ -7,7 +7,7 @@ use Rattle.model.specs.Blocks.{blocks}
 use Rattle.model.specs.Verdict.{differing}
 use Rattle.map.specs.Checked.{firstDiffering}
 use Rattle.model.proofs.ByPlace.{restFrom, rest-all, zone-end, block-length}
-use Rattle.map.proofs.Sums.{checks-turn, checks-stop, checks-end}
+use Rattle.map.proofs.ChecksByZone.{checks-turn, checks-stop, checks-end}
 use borrow.Author.Needs.{needs}
 use Rattle.map.proofs.zone_checks.Statement.{statement}
 use Rattle.map.proofs.zone_checks.Tie as tie

@@ -1,7 +1,7 @@
 -- From the start zone on the bit itself, before it counted on.
 use Prim.Native.Nat.{ℕ, _+_}
 use mathlib.Core.Path.{ap, _∙_}
-use Rattle.geometry.proofs.Bits.{disc-bits-small}
+use Rattle.geometry.proofs.DiscBits.{disc-bits-small}
 use native.Mathlib.Omega.{arith}
 use Rattle.place.proofs.SmallTests.{late-place, early-place}
 use borrow.Author.Needs.{needs}

@@ -1,4 +1,4 @@
--- The laws of `EditsRefused`.
+-- The laws of EditsRefused, and those of Twelve (crate calls) for the geometry of an accepted map.
 use Rattle.runs.proofs.EditsRefused.{placed-had-room, thirteen-had-none, without-room, never-fourteen, claimed, fifteen-had-none, no-hole}
 use Rattle.runs.proofs.edit_rules.Statement.{statement}
 use Rattle.runs.proofs.edit_rules.Tie as tie

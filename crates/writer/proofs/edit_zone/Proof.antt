@@ -2,7 +2,7 @@
 use mathlib.Core.Path.{_∙_}
 use native.Mathlib.Omega.{arith}
 use Rattle.bits.proofs.Bytes.{all-bytes}
-use Rattle.geometry.proofs.Bits.{zone-bits-small}
+use Rattle.geometry.proofs.DiscBits.{zone-bits-small}
 use Rattle.writer.proofs.WholeZone.{asks-zone, zone-written}
 use borrow.Author.Needs.{needs}
 use Rattle.writer.proofs.edit_zone.Statement.{statement}

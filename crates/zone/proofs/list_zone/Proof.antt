@@ -6,7 +6,7 @@ use native.Mathlib.Omega.{arith}
 use lib.ListN.{length}
 use Rattle.fragment.specs.Found.{fragmentAt}
 use Rattle.fragment.specs.declared.Found.the-variants as found
-use Rattle.geometry.proofs.Bits.{zone-bits-small}
+use Rattle.geometry.proofs.DiscBits.{zone-bits-small}
 use Rattle.zone.specs.Lines.{entriesIn}
 use Rattle.zone.proofs.AllocBits.{ZoneBlock, whole-fits}
 use Rattle.zone.proofs.ListWalk.{ListedSoFar, list-starts, one-more, list-turn, list-ends, never-broken}

@@ -1,6 +1,6 @@
 -- Sum and product are small: the map's bits are few.
 use native.Mathlib.Omega.{arith}
-use Rattle.geometry.proofs.Bits.{zone-bits-small, disc-bits-small}
+use Rattle.geometry.proofs.DiscBits.{zone-bits-small, disc-bits-small}
 use borrow.Author.Needs.{needs}
 use Rattle.geometry.proofs.Geometry.block_bit.Statement.{statement}
 use Rattle.geometry.proofs.Geometry.block_bit.Tie as tie

@@ -1,6 +1,6 @@
 -- The product is small, and no bit of a zone lies before disc bit 0.
 use native.Mathlib.Omega.{arith}
-use Rattle.geometry.proofs.Bits.{zone-bits-small, from-zero-on}
+use Rattle.geometry.proofs.DiscBits.{zone-bits-small, from-zero-on}
 use borrow.Author.Needs.{needs}
 use Rattle.geometry.proofs.Geometry.disc_bit.Statement.{statement}
 use Rattle.geometry.proofs.Geometry.disc_bit.Tie as tie

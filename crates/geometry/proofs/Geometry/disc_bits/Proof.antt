@@ -1,6 +1,6 @@
 -- The map's bits are few, and zone 0 alone has 480 and more.
 use native.Mathlib.Omega.{arith}
-use Rattle.geometry.proofs.Bits.{zone-bits-small, map-bits-low}
+use Rattle.geometry.proofs.DiscBits.{zone-bits-small, map-bits-low}
 use borrow.Author.Needs.{needs}
 use Rattle.geometry.proofs.Geometry.disc_bits.Statement.{statement}
 use Rattle.geometry.proofs.Geometry.disc_bits.Tie as tie

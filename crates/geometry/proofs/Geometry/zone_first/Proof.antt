@@ -1,7 +1,7 @@
 -- By the test of the zone against 0.
 use native.Mathlib.Omega.{arith}
 use mathlib.Core.Path.{sym}
-use Rattle.geometry.proofs.Bits.{first-of-zero, first-of-other}
+use Rattle.geometry.proofs.DiscBits.{first-of-zero, first-of-other}
 use Rattle.geometry.proofs.Geometry.zone_first.Statement.{statement}
 use Rattle.geometry.proofs.Geometry.zone_first.Tie as tie
 

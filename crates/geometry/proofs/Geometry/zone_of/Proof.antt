@@ -1,6 +1,6 @@
 -- The sum is small: the map's bits are few.
 use native.Mathlib.Omega.{arith}
-use Rattle.geometry.proofs.Bits.{disc-bits-small}
+use Rattle.geometry.proofs.DiscBits.{disc-bits-small}
 use borrow.Author.Needs.{needs}
 use Rattle.geometry.proofs.Geometry.zone_of.Statement.{statement}
 use Rattle.geometry.proofs.Geometry.zone_of.Tie as tie

@@ -8,7 +8,7 @@ use lib.ListN.{length}
 use Rattle.geometry.specs.declared.Geometry.{Geometry}
 use Rattle.geometry.specs.Accepted.{AcceptedGeometry}
 use Rattle.geometry.specs.Places.{firstBit, endBit}
-use Rattle.geometry.proofs.Bits.{first-low}
+use Rattle.geometry.proofs.DiscBits.{first-low}
 use Rattle.model.specs.Fragments.{Fragment, Formed}
 use Rattle.model.specs.Chain.{Entry, onward, follow}
 use Rattle.model.specs.Blocks.{linkIn, allocBits}
@@ -19,7 +19,7 @@ use Rattle.model.proofs.ZoneTests.{zone-tests}
 use Rattle.fragment.specs.Found.{nextAfter}
 use Rattle.zone.specs.Lines.{entriesIn, IsRead}
 use Rattle.zone.proofs.AllocBits.{first-high, ZoneBlock, bits-left, alloc-all}
-use Rattle.zone.proofs.ReadParts.{chain-parts}
+use Rattle.zone.proofs.EntriesRead.{chain-parts}
 
 long-each : (n : ℕ) (fs : List Fragment) → 10 ≤ n → Formed (suc n) fs → 12 * length fs ≤ total fs
 long-each n [] h f = omega arith

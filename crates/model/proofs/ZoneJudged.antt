@@ -12,7 +12,7 @@ use Rattle.bits.proofs.Tests.{by-test, both, and-true}
 use Rattle.geometry.specs.declared.Geometry.{Geometry}
 use Rattle.geometry.specs.Accepted.{AcceptedGeometry}
 use Rattle.geometry.specs.Places.{firstBit, endBit}
-use Rattle.geometry.proofs.Bits.{first-low}
+use Rattle.geometry.proofs.DiscBits.{first-low}
 use Rattle.model.specs.Fragments.{Fragment, fragmentBits, Formed, InClusters, edge, cut, fragmentsIn}
 use Rattle.model.specs.Chain.{Entry, onward, follow}
 use Rattle.model.specs.Blocks.{freeLink, linkIn, allocBits}

@@ -1,0 +1,67 @@
+//! The product's small program, held against the reference's lines.
+
+use std::io::{self, ErrorKind, Read, Write};
+use std::process::{Command, Stdio};
+
+use reference::generate::{map_a, map_b};
+use reference::lines::{lines, LONGEST_MAP};
+
+pub struct Program {
+    pub path: String,
+    pub runs: u64,
+    pub differences: u64,
+}
+
+impl Program {
+    /// What the program prints for a map.
+    fn printed(&self, map: &[u8]) -> io::Result<String> {
+        let mut child = Command::new(&self.path)
+            .stdin(Stdio::piped())
+            .stdout(Stdio::piped())
+            .spawn()?;
+        let written = child.stdin.take().expect("it is piped").write_all(map);
+        // A map that is too long need not be read to its end.
+        if let Err(error) = written {
+            if error.kind() != ErrorKind::BrokenPipe {
+                return Err(error);
+            }
+        }
+        let mut text = String::new();
+        child
+            .stdout
+            .take()
+            .expect("it is piped")
+            .read_to_string(&mut text)?;
+        child.wait()?;
+        Ok(text)
+    }
+
+    pub fn compare(&mut self, name: &str, map: &[u8]) -> io::Result<()> {
+        self.runs += 1;
+        if self.printed(map)? != lines(map) {
+            self.differences += 1;
+            println!("{} differs on {name}, {} bytes", self.path, map.len());
+        }
+        Ok(())
+    }
+
+    /// Maps A and B, no bytes, and lengths around the longest that is read.
+    pub fn compare_fixed(&mut self) -> io::Result<()> {
+        let mut long = map_a();
+        long.resize(LONGEST_MAP + 1, 0);
+        for (name, map) in [
+            ("map A", &map_a()[..]),
+            ("map B", &map_b()[..]),
+            ("no bytes", &[]),
+            ("as many bytes as are read", &long[..LONGEST_MAP]),
+            ("a byte more", &long[..]),
+            (
+                "a byte more, a record outside its ranges",
+                &vec![0; LONGEST_MAP + 1][..],
+            ),
+        ] {
+            self.compare(name, map)?;
+        }
+        Ok(())
+    }
+}

@@ -1,0 +1,140 @@
+//! The written-out cases: one method for each call, and what is expected of
+//! its answer by document 01. The expectation is this reading's own, so a slip
+//! in the library is found when the cases are written.
+
+use reference::case::{Call, Case, Outcome};
+
+/// What entries of a lent list hold before the call.
+const OLD_ENTRY: u32 = 0xCCCC_CCCC;
+
+/// What a lent image holds before the call, and the fill of its sweep.
+const OLD_BYTE: u8 = 0x11;
+const FILL: u8 = 0xEE;
+
+/// A group of cases about one subject, with its name.
+pub type Group = (&'static str, fn(&mut Cases));
+
+/// Lists the groups of a module under their functions' names.
+macro_rules! groups {
+    ($($name:ident),* $(,)?) => {
+        pub const GROUPS: &[crate::calls::Group] = &[$((stringify!($name), $name)),*];
+    };
+}
+pub(crate) use groups;
+
+/// The written-out cases so far.
+pub struct Cases(pub Vec<Case>);
+
+impl Cases {
+    pub fn add(&mut self, case: Case) -> Answer {
+        let outcome = case.run();
+        self.0.push(case.clone());
+        Answer { case, outcome }
+    }
+
+    pub fn check(&mut self, map: &[u8]) -> Answer {
+        self.add(Case::new(Call::Check, map))
+    }
+
+    pub fn list(&mut self, map: &[u8], id: u32, entries: usize) -> Answer {
+        let mut case = Case::new(Call::List, map);
+        case.number = id;
+        case.list = vec![OLD_ENTRY; entries];
+        self.add(case)
+    }
+
+    pub fn free(&mut self, map: &[u8], entries: usize) -> Answer {
+        let mut case = Case::new(Call::Free, map);
+        case.list = vec![OLD_ENTRY; entries];
+        self.add(case)
+    }
+
+    pub fn address(&mut self, map: &[u8], n: u32, position: u64) -> Answer {
+        let mut case = Case::new(Call::Address, map);
+        case.number = n;
+        case.wide = position;
+        self.add(case)
+    }
+
+    pub fn sweep_object(&mut self, map: &[u8], id: u32, first: u64, length: usize) -> Answer {
+        let mut case = Case::new(Call::SweepObject, map);
+        case.number = id;
+        case.wide = first;
+        case.fill = FILL;
+        case.image = vec![OLD_BYTE; length];
+        self.add(case)
+    }
+
+    pub fn sweep_free(&mut self, map: &[u8], first: u64, length: usize) -> Answer {
+        let mut case = Case::new(Call::SweepFree, map);
+        case.wide = first;
+        case.fill = FILL;
+        case.image = vec![OLD_BYTE; length];
+        self.add(case)
+    }
+
+    pub fn release(&mut self, map: &[u8], id: u32, entries: usize) -> Answer {
+        let mut case = Case::new(Call::Release, map);
+        case.number = id;
+        case.list = vec![OLD_ENTRY; entries];
+        self.add(case)
+    }
+
+    pub fn place(&mut self, map: &[u8], id: u32, list: &[u32]) -> Answer {
+        let mut case = Case::new(Call::Place, map);
+        case.number = id;
+        case.list = list.to_vec();
+        self.add(case)
+    }
+
+    pub fn claim(&mut self, map: &[u8], size: u64) -> Answer {
+        let mut case = Case::new(Call::Claim, map);
+        case.wide = size;
+        self.add(case)
+    }
+}
+
+/// A case as the library answered it.
+pub struct Answer {
+    case: Case,
+    outcome: Outcome,
+}
+
+impl Answer {
+    /// The case's number (0 is accepted) and the zone told.
+    #[track_caller]
+    pub fn told(&self, number: u32, zone: u32) {
+        let told = (self.outcome.number, self.outcome.zone);
+        assert_eq!(told, (number, zone), "{}", self.case.line(&self.outcome));
+    }
+
+    /// The case's number, told with zone 0.
+    #[track_caller]
+    pub fn gives(&self, number: u32) {
+        self.told(number, 0);
+    }
+
+    /// Accepted; answers the map as it was left.
+    #[track_caller]
+    pub fn done(self) -> Vec<u8> {
+        self.gives(0);
+        self.outcome.map
+    }
+
+    /// Accepted with these numbers; answers the map as it was left.
+    #[track_caller]
+    pub fn answers(self, values: &[u64]) -> Vec<u8> {
+        self.gives(0);
+        assert_eq!(self.outcome.values, values);
+        self.outcome.map
+    }
+
+    /// Accepted with these pairs; answers the map as it was left.
+    #[track_caller]
+    pub fn pairs(self, pairs: &[u32]) -> Vec<u8> {
+        self.gives(0);
+        assert_eq!(self.outcome.values, [pairs.len() as u64 / 2]);
+        assert_eq!(&self.outcome.list[..pairs.len()], pairs);
+        self.outcome.map
+    }
+}

@@ -1,0 +1,289 @@
+//! Maps and disc records that several groups use.
+
+use reference::case::{Call, Case};
+use reference::generate::{build, repair_cross_checks, repair_zone_checks};
+use reference::geometry::{DiscRecord, Geometry, DISC_RECORD};
+use reference::map::{set_bit, set_number, Owner};
+
+pub fn object(id: u32, length: usize) -> (Owner, usize) {
+    (Owner::Object(id), length)
+}
+
+pub fn free(length: usize) -> (Owner, usize) {
+    (Owner::Free, length)
+}
+
+/// The record of map A with more zones: Z 2016, k 1, m 12, P 168, and 1,024
+/// bytes of disc behind a map bit. The disc ends where the map does.
+pub fn plain(nzones: u8) -> DiscRecord {
+    whole_disc(DiscRecord {
+        log2secsize: 8,
+        idlen: 11,
+        log2bpmb: 10,
+        nzones,
+        zone_spare: 32,
+        disc_size: 0,
+    })
+}
+
+/// k 2 and m 14 for an idlen of 12: Z 2016, P 155, 128 bytes a map bit.
+pub fn clusters_of_two(nzones: u8) -> DiscRecord {
+    whole_disc(DiscRecord {
+        log2secsize: 8,
+        idlen: 12,
+        log2bpmb: 7,
+        ..plain(nzones)
+    })
+}
+
+/// k 4 and m 16 for an idlen of 12: Z 4064, P 312, 128 bytes a map bit.
+pub fn clusters_of_four(nzones: u8) -> DiscRecord {
+    whole_disc(DiscRecord {
+        log2secsize: 9,
+        idlen: 12,
+        log2bpmb: 7,
+        ..plain(nzones)
+    })
+}
+
+/// k 8 and m 16 for an idlen of 13, so that P is Z div 14: Z 8160, P 582, 128
+/// bytes a map bit.
+pub fn clusters_of_eight(nzones: u8) -> DiscRecord {
+    whole_disc(DiscRecord {
+        log2secsize: 10,
+        idlen: 13,
+        log2bpmb: 7,
+        ..plain(nzones)
+    })
+}
+
+/// Z no multiple of 8: the zone ends after bit 2 of its block's byte 255.
+pub fn odd_zone_end(nzones: u8) -> DiscRecord {
+    whole_disc(DiscRecord {
+        zone_spare: 37,
+        ..plain(nzones)
+    })
+}
+
+/// The record with the largest disc_size.
+fn whole_disc(record: DiscRecord) -> DiscRecord {
+    let zone_bits = (8 << record.log2secsize) - record.zone_spare as u32;
+    disc_of(record.nzones as u32 * zone_bits - 480, record)
+}
+
+/// The record with a disc that ends after so many map bits.
+pub fn disc_of(map_bits: u32, record: DiscRecord) -> DiscRecord {
+    DiscRecord {
+        disc_size: map_bits << record.log2bpmb,
+        ..record
+    }
+}
+
+/// The first disc bit of a zone of 2016 allocation bits.
+pub fn first(zone: u32) -> u32 {
+    (zone * 2_016).saturating_sub(480)
+}
+
+/// Sets every bit that is carried and not judged: the other fields of the
+/// record and the bits past each zone's end.
+pub fn with_ones_outside(mut map: Vec<u8>) -> Vec<u8> {
+    let record = DiscRecord::read(&map);
+    let geometry = Geometry::accept(&record).expect("a record inside its ranges");
+    map[DISC_RECORD..DISC_RECORD + 60].fill(0xFF);
+    record.write(&mut map);
+    for block in map.chunks_exact_mut(geometry.sector_size) {
+        for block_bit in geometry.end_block_bit()..8 * geometry.sector_size {
+            set_bit(block, block_bit, true);
+        }
+    }
+    repair_zone_checks(&mut map, geometry.sector_size);
+    map
+}
+
+/// The map of 256-byte sectors with these cross checks.
+pub fn with_cross_checks(mut map: Vec<u8>, bytes: [u8; 3]) -> Vec<u8> {
+    for (block, byte) in map.chunks_exact_mut(256).zip(bytes) {
+        block[3] = byte;
+    }
+    repair_zone_checks(&mut map, 256);
+    map
+}
+
+/// The free spans of a map.
+pub fn spans_of(map: &[u8]) -> Vec<u32> {
+    let mut case = Case::new(Call::Free, map);
+    case.list = vec![0; 1_024];
+    let outcome = case.run();
+    outcome.list[..2 * outcome.values[0] as usize].to_vec()
+}
+
+/// The pairs of an object that is on the map.
+pub fn pairs_of(map: &[u8], id: u32) -> Vec<u32> {
+    let mut case = Case::new(Call::List, map);
+    case.number = id;
+    case.list = vec![0; 1_024];
+    let outcome = case.run();
+    outcome.list[..2 * outcome.values[0] as usize].to_vec()
+}
+
+/// One zone with two holes, (12,100) and (132,50).
+pub fn two_holes() -> Vec<u8> {
+    build(
+        &plain(1),
+        &[vec![
+            object(2, 12),
+            free(100),
+            object(6, 20),
+            free(50),
+            object(7, 1_354),
+        ]],
+    )
+}
+
+/// Three zones, all free but object 2.
+pub fn three_free_zones() -> Vec<u8> {
+    build(
+        &plain(3),
+        &[
+            vec![free(1_536)],
+            vec![object(2, 12), free(2_004)],
+            vec![free(2_016)],
+        ],
+    )
+}
+
+/// Four zones with objects of the start zones 0 to 3 in several zones each,
+/// and objects 1 and 2 in two places.
+pub fn four_zones() -> Vec<u8> {
+    build(
+        &plain(4),
+        &[
+            vec![
+                object(600, 20),
+                object(400, 21),
+                object(170, 22),
+                object(100, 23),
+                object(1, 36),
+                free(1_414),
+            ],
+            vec![
+                object(100, 24),
+                object(170, 25),
+                object(400, 26),
+                object(600, 27),
+                object(2, 35),
+                free(1_879),
+            ],
+            vec![object(2, 12), object(400, 28), object(600, 29), free(1_947)],
+            vec![
+                object(2, 30),
+                object(1, 31),
+                object(600, 32),
+                object(170, 33),
+                object(600, 34),
+                free(1_856),
+            ],
+        ],
+    )
+}
+
+/// 127 zones of 126 ids each; object 9,000, whose start zone is 71, has a
+/// fragment in every one of them.
+pub fn all_127_zones() -> Vec<u8> {
+    let record = whole_disc(DiscRecord {
+        idlen: 15,
+        ..plain(127)
+    });
+    let mut zones = vec![vec![free(1_984), object(9_000, 32)]; 127];
+    zones[0] = vec![free(1_504), object(9_000, 32)];
+    zones[63] = vec![object(2, 16), object(9_000, 32), free(1_968)];
+    build(&record, &zones)
+}
+
+/// No free fragment at all: objects 2 and 5 fill the only zone.
+pub fn nothing_free() -> Vec<u8> {
+    build(&plain(1), &[vec![object(2, 12), object(5, 1_524)]])
+}
+
+/// The disc of `three_zones` ends 100 map bits before its map.
+pub fn three_zones_record() -> DiscRecord {
+    DiscRecord {
+        log2bpmb: 9,
+        disc_size: (3 * 2_016 - 480 - 100) * 512,
+        ..plain(3)
+    }
+}
+
+pub fn three_zones_parts() -> [Vec<(Owner, usize)>; 3] {
+    [
+        vec![object(7, 20), free(1_000), object(8, 516)],
+        vec![object(2, 12), object(7, 20), free(1_984)],
+        vec![free(1_000), object(7, 900), object(1, 116)],
+    ]
+}
+
+/// Three zones: object 2 first in zone 1, a free fragment in each.
+pub fn three_zones() -> Vec<u8> {
+    build(&three_zones_record(), &three_zones_parts())
+}
+
+/// The same zones with free fragments that touch, in zones 1 and 2.
+pub fn touching_free() -> Vec<u8> {
+    build(
+        &three_zones_record(),
+        &[
+            vec![object(7, 20), free(1_000), object(8, 516)],
+            vec![object(2, 12), object(7, 20), free(984), free(1_000)],
+            vec![free(500), free(500), object(7, 900), object(1, 116)],
+        ],
+    )
+}
+
+// ------------------------------------------------- damage to `three_zones`
+
+/// One damage to the map of `three_zones`. Zone 0 starts at bit 512 of byte 0,
+/// zone 1 at bit 32 of byte 256, zone 2 at bit 32 of byte 512.
+pub type Damage = fn(&mut Vec<u8>);
+
+pub const CHECK_0: Damage = |map| map[0] ^= 0x80;
+pub const CHECK_1: Damage = |map| map[256] ^= 1;
+pub const CHECK_2: Damage = |map| map[512] ^= 2;
+pub const CROSS_1: Damage = |map| {
+    map[256 + 3] ^= 4;
+    repair_zone_checks(map, 256);
+};
+pub const FRAGMENT_0: Damage = |map| set_bit(&mut map[0..256], 2_047, false);
+pub const FRAGMENT_1: Damage = |map| set_bit(&mut map[256..512], 2_047, false);
+pub const FRAGMENT_2: Damage = |map| set_bit(&mut map[512..768], 2_047 - 5, true);
+pub const TOP_BIT_0: Damage = |map| map[2] &= 0x7F;
+pub const TOP_BIT_1: Damage = |map| map[256 + 2] &= 0x7F;
+pub const LINK_1: Damage = |map| map[256 + 1] ^= 1;
+pub const LINK_2: Damage = |map| set_number(&mut map[512..768], 32, 11, 1_001);
+pub const LINK_END_2: Damage = |map| set_number(&mut map[512..768], 32, 11, 2_016);
+pub const ID_0: Damage = |map| set_number(&mut map[0..256], 512, 11, 0);
+pub const ID_1: Damage = |map| set_number(&mut map[256..512], 44, 11, 3 * 168);
+pub const OBJECT_2: Damage = |map| set_number(&mut map[256..512], 32, 11, 3);
+pub const DISC_END: Damage = |map| set_number(&mut map[512..768], 1_932, 11, 3);
+pub const CHAIN_GONE_0: Damage = |map| map[1..3].copy_from_slice(&[0, 0x80]);
+/// FreeLink into the disc record.
+pub const LINK_RECORD_0: Damage = |map| map[1..3].copy_from_slice(&[24, 0x80]);
+/// FreeLink onto the bit before the first allocation bit.
+pub const LINK_503_0: Damage = |map| map[1..3].copy_from_slice(&[0xF7, 0x81]);
+
+/// `three_zones` with damages, its zone checks and cross checks as they come.
+pub fn damaged(damages: &[Damage]) -> Vec<u8> {
+    let mut map = three_zones();
+    for damage in damages {
+        damage(&mut map);
+    }
+    map
+}
+
+/// The same with zone checks and cross checks made right again, so that a
+/// deeper refusal is the one reached.
+pub fn damaged_below_checks(damages: &[Damage]) -> Vec<u8> {
+    let mut map = damaged(damages);
+    repair_cross_checks(&mut map, 256);
+    repair_zone_checks(&mut map, 256);
+    map
+}

@@ -1,0 +1,38 @@
+//! Cases from a fixed range of seeds.
+
+use std::collections::BTreeMap;
+
+use reference::case::{Call, Case, Outcome};
+use reference::generate::{play, Sizes};
+
+/// A small case for each call and each of its refusals, and a few accepted
+/// ones of each call, one of them large.
+pub fn from_seeds(sizes: &Sizes) -> Vec<Case> {
+    let mut taken = Vec::new();
+    let mut times: BTreeMap<(Call, u32), usize> = BTreeMap::new();
+    let mut larger: BTreeMap<Call, usize> = BTreeMap::new();
+    for seed in 1_000..3_000 {
+        // At most two cases of a seed, so that the maps differ.
+        let mut of_seed = 0;
+        play(seed, sizes, &mut |case: &Case, outcome: &Outcome| {
+            let bytes = case.bytes().len();
+            let kind = (case.call, outcome.number);
+            let wanted = if outcome.number == 0 { 4 } else { 1 };
+            let count = times.entry(kind).or_insert(0);
+            let small = bytes <= 3_200 && *count < wanted;
+            let large = outcome.number == 0
+                && (16_000..40_000).contains(&bytes)
+                && larger.get(&case.call).copied().unwrap_or(0) < 1;
+            if of_seed < 2 && (small || large) {
+                if small {
+                    *count += 1;
+                } else {
+                    *larger.entry(case.call).or_insert(0) += 1;
+                }
+                of_seed += 1;
+                taken.push(case.clone());
+            }
+        });
+    }
+    taken
+}
