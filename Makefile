@@ -1,7 +1,7 @@
-# make            proves the listing program and lists the fragments of a map (MAP=file; map A by default)
+# make            proves map_lines and lists the fragments of a map with it (MAP=file; map A by default)
 # make test       the gate: layout, then every proof, every must-fail edit and every program
 # make library    the static library for C and Rust
-# make compare    many generated maps through the library, the listing program and the second program (SEEDS=n for more),
+# make compare    many generated maps through the library, map_lines and the second program (SEEDS=n for more),
 #                 and that the stored cases are current
 # make memcheck   the same on fewer maps, under valgrind
 # make bench      the library's time against the second program's, as ratios

@@ -1,7 +1,7 @@
 /* Shoalswift: maps of discs in Acorn's E format.
  *
- * Every function answers a refusal number, 0 where the call is accepted. *zone and every other number handed in by pointer is
- * always written: 0 where the call is refused, or where there is nothing to tell. A refused call changes no byte of map, image or
+ * Every function answers a refusal number, 0 where the call is accepted. *zone is always written: the zone told, or 0. Every other
+ * number handed in by pointer is always written too, 0 where the call is refused. A refused call changes no byte of map, image or
  * list. No function keeps a pointer, allocates, or has state; calls on different maps may run at the same time.
  *
  * What a caller owes: each pointer with a length is valid for that many elements (it may be any non-null, aligned pointer where the

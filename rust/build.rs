@@ -18,7 +18,4 @@ fn main() {
     // depends on the package has nothing more to link.
     println!("cargo:rustc-link-search=native={}", folder.display());
     println!("cargo:rustc-link-lib=static=shoalswift");
-    // The library may bring a panic handler of its own; the standard
-    // library's is then the one used.
-    println!("cargo:rustc-link-arg=-Wl,--allow-multiple-definition");
 }

@@ -48,7 +48,10 @@ fn wrong(name: &str, crates: &[String], specs: &str) -> bool {
         return text.is_empty() || !text.contains(&format!("fn {function}"));
     }
     if let Some((of, function)) = name.split_once("::") {
-        let of = if of == "Geometry" { "geometry" } else { of };
+        let of = match of {
+            "Geometry" | "DiscBit" => "geometry",
+            other => other,
+        };
         return !has_word(&folder(format!("crates/{of}/src")), function);
     }
     if let Some((of, rest)) = name.split_once('/') {
@@ -81,7 +84,7 @@ fn every_name_of_the_documents_is_there() {
     let specs = specs.join("\n");
     let mut names = 0;
     let mut lost = Vec::new();
-    for document in ["docs/TRACE.md", "docs/STATEMENTS.md"] {
+    for document in ["docs/TRACE.md", "docs/STATEMENTS.md", "docs/DECISIONS.md"] {
         for (line, text) in read(document).lines().enumerate() {
             // Of a line cut at backticks, every second part is a name.
             for name in text.split('`').skip(1).step_by(2) {

@@ -11,8 +11,5 @@ fn main() {
     // A relative folder is taken from the manifest.
     let library = Path::new(&manifest).join(folder).join("libshoalswift.a");
     println!("cargo:rerun-if-changed={}", library.display());
-    // The library may bring a panic handler of its own. It comes after the
-    // standard library, whose handler is then the one used.
-    println!("cargo:rustc-link-arg=-Wl,--allow-multiple-definition");
     println!("cargo:rustc-link-arg={}", library.display());
 }

@@ -1,72 +1,79 @@
--- A question to a call, and the numbers that it answers: computed from the definitions that the calls' contracts cite.
--- Assumes nothing.
+-- A question to a call, and the numbers that it answers: the paper's numbers of the answer, and what is lent as it is afterwards,
+-- each by the definition that the call's contract cites. Assumes nothing.
 use mathlib.Core.Bool.{Bool}
 use mathlib.Core.List.{List, [], _∷_, _++_}
 use Prim.Native.Nat.{ℕ}
 use lib.ListN.{length}
 use Rattle.geometry.specs.declared.Geometry.{Geometry}
-use Rattle.geometry.specs.Places.{startZone}
+use Rattle.geometry.specs.Answers.{recordOf, recordNumbers, startOf, startNumbers}
 use Rattle.checks.specs.Cross.{changes}
-use Rattle.model.specs.Chain.{numbersOf}
 use Rattle.map.specs.Checked.{checked, checkNumbers}
-use Rattle.listing.specs.Listed.{PairsFound, objectFound, freeFound}
-use Rattle.listing.specs.Listed as pairs
-use Rattle.reach.specs.Address.{AddressFound, addressFound}
-use Rattle.reach.specs.Address as reached
-use Rattle.reach.specs.Sweep.{ClassFound, objectSweep, freeSweep, coveredCount, imageAfter}
-use Rattle.reach.specs.Sweep as swept
-use Rattle.calls.specs.Edits.{Edit, takes, gives}
+use Rattle.listing.specs.Listed.{PairsFound, objectFound, freeFound, listAnswer, listAfter, listNumbers}
+use Rattle.reach.specs.Address.{addressFound, addressAnswer, addressNumbers}
+use Rattle.reach.specs.Sweep.{ClassFound, objectSweep, freeSweep, sweepAnswer, sweepNumbers, imageAfter}
 use Rattle.calls.specs.Judge.{Call, need}
-use Rattle.runs.specs.Steps.{Outcome, refused, done, outcome, step}
+use Rattle.calls.specs.Judge as call
+use Rattle.runs.specs.Steps.{outcome, step}
+use Rattle.release.specs.Released.{pairsTaken}
+use Rattle.place.specs.Placed.{placeNumbers}
+use Rattle.place.specs.Placed as placed
+use Rattle.claim.specs.Claimed.{claimNumbers}
+use Rattle.claim.specs.Claimed as claimed
 
+-- the calls with what they are handed: lists and images as they are lent; `counted` and `countedFree` are sweeps of so many bytes
 pub data Question : Type 0 where
+  record-read : List ℕ → Question
   check : List ℕ → Question
-  list : List ℕ → ℕ → Question
-  free : List ℕ → Question
+  list : List ℕ → ℕ → List ℕ → Question
+  free : List ℕ → List ℕ → Question
   address : List ℕ → ℕ → ℕ → Question
-  sweepObject : List ℕ → ℕ → ℕ → ℕ → Question
-  sweepFree : List ℕ → ℕ → ℕ → Question
-  sweepImage : List ℕ → ℕ → ℕ → ℕ → List ℕ → Question
-  edit : List ℕ → Call → Question
+  sweepObject : List ℕ → ℕ → ℕ → ℕ → List ℕ → Question
+  sweepFree : List ℕ → ℕ → ℕ → List ℕ → Question
+  counted : List ℕ → ℕ → ℕ → ℕ → Question
+  countedFree : List ℕ → ℕ → ℕ → Question
+  release : List ℕ → ℕ → List ℕ → Question
+  place : List ℕ → ℕ → List ℕ → Question
+  claim : List ℕ → ℕ → Question
+  -- the map after an edit
   after : List ℕ → Call → Question
+  -- start zone, sizes and need of a geometry; what an edit of these zones does to their cross checks
   start : Geometry → ℕ → Question
   sizes : Geometry → Question
   bitsFor : Geometry → ℕ → Question
   change : List Bool → Question
 
--- Answers as numbers: 0 and the values, or the refusal and its zone.
-abbrev pub pairNumbers : PairsFound → List ℕ
-pairNumbers (pairs.found qs) = 0 ∷ numbersOf qs
-pairNumbers (pairs.refused n z) = n ∷ z ∷ []
+abbrev pub two : ℕ × ℕ → List ℕ
+two n = n .0 ∷ n .1 ∷ []
 
-abbrev pub addressNumbers : AddressFound → List ℕ
-addressNumbers (reached.found a) = 0 ∷ a ∷ []
-addressNumbers (reached.refused n z) = n ∷ z ∷ []
+abbrev pub three : ℕ × ℕ × ℕ → List ℕ
+three n = n .0 ∷ n .1 ∷ n .2 ∷ []
 
-abbrev pub countNumbers : ℕ → ℕ → ClassFound → List ℕ
-countNumbers first n (swept.class unit qs) = 0 ∷ coveredCount unit qs first n ∷ []
-countNumbers first n (swept.refused k z) = k ∷ z ∷ []
+abbrev pub five : ℕ × ℕ × ℕ × ℕ × ℕ → List ℕ
+five n = n .0 ∷ n .1 ∷ n .2 ∷ n .3 ∷ n .4 ∷ []
 
--- an edit's id and pairs
-abbrev pub editNumbers : Edit → List ℕ
-editNumbers (takes id qs) = 0 ∷ id ∷ numbersOf qs
-editNumbers (gives id qs) = 0 ∷ id ∷ numbersOf qs
+-- refusal, zone and pairs, and the lent list afterwards
+abbrev pub listed : List ℕ → PairsFound → List ℕ
+listed old found = three (listNumbers (listAnswer found)) ++ listAfter old found
 
-abbrev pub outcomeNumbers : Outcome → List ℕ
-outcomeNumbers (refused n z) = n ∷ z ∷ []
-outcomeNumbers (done e s) = editNumbers e
+-- refusal, zone and count of a stretch of n bytes
+abbrev pub sweepCount : ℕ → ℕ → ClassFound → List ℕ
+sweepCount first n found = three (sweepNumbers (sweepAnswer first n found))
 
 abbrev pub answer : Question → List ℕ
-answer (check m) = checkNumbers (checked m) .0 ∷ checkNumbers (checked m) .1 ∷ []
-answer (list m id) = pairNumbers (objectFound m id 64)
-answer (free m) = pairNumbers (freeFound m 64)
-answer (address m n position) = addressNumbers (addressFound m n position)
-answer (sweepObject m id first n) = countNumbers first n (objectSweep m id first n)
-answer (sweepFree m first n) = countNumbers first n (freeSweep m first n)
-answer (sweepImage m id first fill image) = let found = objectSweep m id first (length image) in countNumbers first (length image) found ++ imageAfter first fill image found
-answer (edit m c) = outcomeNumbers (outcome m c)
+answer (record-read m) = two (recordNumbers (recordOf m))
+answer (check m) = two (checkNumbers (checked m))
+answer (list m id old) = listed old (objectFound m id (length old))
+answer (free m old) = listed old (freeFound m (length old))
+answer (address m n position) = three (addressNumbers (addressAnswer (addressFound m n position)))
+answer (sweepObject m id first fill old) = let found = objectSweep m id first (length old) in sweepCount first (length old) found ++ imageAfter first fill old found
+answer (sweepFree m first fill old) = let found = freeSweep m first (length old) in sweepCount first (length old) found ++ imageAfter first fill old found
+answer (counted m id first n) = sweepCount first n (objectSweep m id first n)
+answer (countedFree m first n) = sweepCount first n (freeSweep m first n)
+answer (release m id old) = listed old (pairsTaken (outcome m (call.release id (length old))))
+answer (place m id l) = two (placeNumbers (placed.placeAnswer (outcome m (call.place id l))))
+answer (claim m size) = five (claimNumbers (claimed.claimAnswer (outcome m (call.claim size))))
 answer (after m c) = step m c
-answer (start g id) = startZone g id ∷ []
+answer (start g id) = three (startNumbers (startOf g id))
 answer (sizes g) = g .bits ∷ g .shortest ∷ g .ids ∷ g .size ∷ []
 answer (bitsFor g size) = need g size ∷ []
 answer (change touched) = changes touched

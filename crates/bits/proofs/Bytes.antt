@@ -1,6 +1,6 @@
 -- Bytes and their bits, both ways: how many, each by its place, and back.
-use mathlib.Core.Path.{_≡_, refl, sym, ap, ap₂, _∙_, subst}
-use mathlib.Core.Bool.{Bool, true, false}
+use mathlib.Core.Path.{_≡_, refl, ap, ap₂, _∙_, subst}
+use mathlib.Core.Bool.{Bool, false}
 use mathlib.Core.List.{List, [], _∷_, _++_}
 use Prim.Native.Nat.{ℕ, zero, suc, _+_, _-_, _*_, _/_, _%_, _^_, _<_, _≤_}
 use native.Mathlib.Omega.{arith}
@@ -33,12 +33,6 @@ bits-bytes (suc n) bs h =
     let f : numberBits 8 (value (take 8 bs)) ≡ take 8 bs = subst (λ (k : ℕ). numberBits k (value (take 8 bs)) ≡ take 8 bs) e (bits-value (take 8 bs)) in
     let r : byteBits (bytesOf n (drop 8 bs)) ≡ drop 8 bs = bits-bytes n (drop 8 bs) (simp length-drop (omega arith)) in
     ap₂ {C = List Bool} (λ a b. a ++ b) f r ∙ take-append-drop 8 bs
-
--- equal bits, equal bytes
-pub bytes-same : (s t : List ℕ) → Bytes s → Bytes t → byteBits s ≡ byteBits t → s ≡ t
-bytes-same s t hs ht e =
-    let l : length s ≡ length t = omega (arith, ap length e, length-byte-bits s, length-byte-bits t) in
-    sym (bytes-bits s hs) ∙ ap₂ bytesOf l e ∙ bytes-bits t ht
 
 -- a bit by its place
 pub bit-at : (bs : List ℕ) (b : ℕ) → b < 8 * length bs → getD (byteBits bs) b false ≡ eqb (getD bs (b / 8) 0 / 2 ^ (b % 8) % 2) 1

@@ -1,6 +1,6 @@
 -- Tests on Bools, taken apart and put together. Every layer's proofs use these.
 use mathlib.Core.Path.{_≡_, refl}
-use mathlib.Core.Bool.{Bool, true, false, cond, not, _&&_, _||_, false≢true}
+use mathlib.Core.Bool.{Bool, true, false, _&&_, _||_, false≢true}
 use mathlib.Core.Logic.{_⊎_, inl, inr}
 
 -- a goal by the two answers of a test

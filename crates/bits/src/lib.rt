@@ -8,7 +8,7 @@
 // at the end.
 ghost use mathlib.Core.Path.{_≡_};
 ghost use mathlib.Core.Bool.{true, false, cond, _&&_};
-ghost use Prim.Native.Nat.{ℕ, _+_, _-_, _*_, _^_, _<_, _≤_};
+ghost use Prim.Native.Nat.{_+_, _-_, _*_, _^_, _<_, _≤_};
 ghost use lib.ListN.{length, getD, set};
 ghost use lib.Seq.{slice, sets};
 ghost use Rattle.bits.specs.Bits.{byteBits, numberBits, value, zeros};
@@ -92,7 +92,7 @@ pub fn zero_run(s: &[u8], from: usize, end: usize) -> usize
     j - from
 }
 
-// Both hold. A choice that is a call keeps the loops above free of joining branches.
+// Both hold. A choice that is a call keeps its callers' loops free of joining branches.
 pub fn both(a: bool, b: bool) -> bool
     ensures { λ r. ⌜ r ≡ a && b ⌝ }
 {

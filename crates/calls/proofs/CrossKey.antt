@@ -1,13 +1,12 @@
 -- Cross checks after a run are fixed by the starting map and the present pieces: an edit of an object changes the cross checks and
 -- that object's part of the key alike, and a change made twice is none.
 use mathlib.Core.Path.{_≡_, refl, sym, ap, ap₂, _∙_, subst}
-use mathlib.Core.Bool.{true, not}
+use mathlib.Core.Bool.{true}
 use mathlib.Core.List.{List, [], _∷_}
 use mathlib.Core.Option.{Option, none, some}
 use Prim.Native.Nat.{ℕ, zero, suc, _-_, _*_, _<_}
 use native.Mathlib.Omega.{arith}
 use lib.Dec.{eqb, leb, ltb}
-use lib.ListN.{length}
 use lib.Bits.{bitXor, xor-zero-r, xor-comm}
 use borrow.Author.Tests.{eqb-true, eqb-false, ltb-true}
 use Rattle.bits.proofs.Tests.{by-test, both}
@@ -16,14 +15,14 @@ use Rattle.checks.specs.Cross.{xorEach, changesFrom, changes, touchedCount}
 use Rattle.geometry.specs.declared.Geometry.{Geometry}
 use Rattle.geometry.specs.Accepted.{AcceptedGeometry}
 use Rattle.model.specs.Chain.{Pair}
-use Rattle.model.specs.Pieces.{Piece, piecesOf, objectPairs}
-use Rattle.calls.specs.Edits.{Disc, give, touchedFrom, touchedZones, crossed, Edit, takes, gives, edit, editId}
-use Rattle.calls.specs.Holes.{holesFrom, allApart}
-use Rattle.calls.specs.Judge.{Call, release, place, claim, Verdict, refused, accepted, unless, isEmpty, editable, pairsFrom, listFits, need, firstHole, lowest, claimIn, judge, obey}
-use Rattle.calls.specs.Runs.{after, run, crossKey}
+use Rattle.model.specs.Pieces.{Piece, objectPairs}
+use Rattle.calls.specs.Edits.{Disc, touchedFrom, touchedZones, crossed, Edit, takes, gives, edit, editId}
+use Rattle.calls.specs.Holes.{holesFrom}
+use Rattle.calls.specs.Judge.{Call, release, place, claim, Verdict, refused, accepted, editable, need, firstHole, lowest, claimIn, judge}
+use Rattle.calls.proofs.PieceRuns.{obey, run, crossKey}
 use Rattle.calls.proofs.Undo.{each-twice}
 use Rattle.calls.proofs.Invariant.{FitPieces}
-use Rattle.calls.proofs.RunsKept.{unless-inv, same-edit, lowest-lt, allowed}
+use Rattle.calls.proofs.RunsKept.{unless-inv, same-edit, lowest-lt, release-tests, place-tests, allowed}
 use Rattle.calls.proofs.ReadsAfter.{ListedAfter, listed-after}
 
 -- changes commute, and none is none
@@ -105,17 +104,11 @@ below-limit g id t = ltb-true id (g .ids * g .zones) ((both (leb 3 id) (ltb id (
 
 pub edit-number : (g : Geometry) (l : List Piece) (c : Call) (e : Edit) → judge g l c ≡ accepted e → editId e < g .ids * g .zones
 edit-number g l (release id room) e h =
-    let qs = objectPairs g id l in
-    let a = unless-inv (editable g id) 8 (unless (not (isEmpty (piecesOf id l))) 10 (unless (leb (2 * length qs) room) 17 (accepted (takes id qs)))) e h in
-    let b = unless-inv (not (isEmpty (piecesOf id l))) 10 (unless (leb (2 * length qs) room) 17 (accepted (takes id qs))) e (a .1) in
-    let c = unless-inv (leb (2 * length qs) room) 17 (accepted (takes id qs)) e (b .1) in
-    subst (λ (x : Edit). editId x < g .ids * g .zones) (same-edit {a = takes id qs} (c .1)) (below-limit g id (a .0))
+    let t = release-tests g l id room e h in
+    subst (λ (x : Edit). editId x < g .ids * g .zones) (t .3) (below-limit g id (t .0))
 edit-number g l (place id list) e h =
-    let a = unless-inv (editable g id) _ _ e h in
-    let b = unless-inv (isEmpty (piecesOf id l)) _ _ e (a .1) in
-    let c = unless-inv (listFits g id list) _ _ e (b .1) in
-    let d = unless-inv (allApart g 0 (g .zones) (give id (pairsFrom list) l)) _ _ e (c .1) in
-    subst (λ (x : Edit). editId x < g .ids * g .zones) (same-edit (d .1)) (below-limit g id (a .0))
+    let t = place-tests g l id list e h in
+    subst (λ (x : Edit). editId x < g .ids * g .zones) (t .4) (below-limit g id (t .0))
 edit-number g l (claim size) e h =
     let a = unless-inv (ltb 0 size) _ _ e h in
     go (lowest l (g .ids * g .zones - 3) 3) refl (firstHole (need g size) (holesFrom g 0 (g .zones) l)) (a .1)
@@ -143,11 +136,12 @@ run-key g s (c ∷ cs) f k = go (judge g (s .pieces) c) refl (λ r h. run-key g 
         let a = allowed g (s .pieces) c e f k h in
         ih (edit g e s) (a .1 (s .cross)) ∙ key-edit g s e (g .ids * g .zones) (edit-number g (s .pieces) c e h) (listed-after g s e (a .0))
 
--- so where the pieces are as at the start, the cross checks are
-pub run-cross-back : (g : Geometry) (s : Disc) (cs : List Call) → AcceptedGeometry g → FitPieces g (s .pieces)
-    → (run g s cs) .pieces ≡ s .pieces → (run g s cs) .cross ≡ s .cross
-run-cross-back g s cs f k e =
+-- so where two runs leave the same pieces, they leave the same cross checks
+pub runs-cross-same : (g : Geometry) (s : Disc) (cs ds : List Call) → AcceptedGeometry g → FitPieces g (s .pieces)
+    → (run g s cs) .pieces ≡ (run g s ds) .pieces → (run g s cs) .cross ≡ (run g s ds) .cross
+runs-cross-same g s cs ds f k e =
     let N = g .ids * g .zones in
-    sym (key-twice g (s .pieces) N ((run g s cs) .cross))
-    ∙ ap (crossKey g (s .pieces) N) (ap (λ (l : List Piece). crossKey g l N ((run g s cs) .cross)) (sym e) ∙ run-key g s cs f k)
-    ∙ key-twice g (s .pieces) N (s .cross)
+    let l = (run g s ds) .pieces in
+    sym (key-twice g l N ((run g s cs) .cross))
+    ∙ ap (crossKey g l N) (ap (λ (x : List Piece). crossKey g x N ((run g s cs) .cross)) (sym e) ∙ run-key g s cs f k ∙ sym (run-key g s ds f k))
+    ∙ key-twice g l N ((run g s ds) .cross)

@@ -16,10 +16,11 @@ use Rattle.geometry.specs.Accepted.{AcceptedGeometry}
 use Rattle.geometry.specs.Places.{zoneOf, zoneFrom, zoneEnd, discBits}
 use Rattle.model.specs.Chain.{Pair}
 use Rattle.model.specs.Pieces.{Piece, keep, late}
-use Rattle.calls.specs.Order.{Ascending, rank, InOrder}
+use Rattle.calls.specs.Order.{Ascending, rank}
 use Rattle.calls.specs.Edits.{notOf, without, own, give, inZone}
 use Rattle.calls.specs.Holes.{apart, allApart}
 use Rattle.calls.specs.Judge.{pairFits, pairsFit}
+use Rattle.calls.proofs.ObjectOrder.{InOrder}
 use Rattle.calls.proofs.Kept.{All, all-keep, all-put, keep-comm}
 use Rattle.calls.proofs.ByPlace.{Weak, weak-keep, weak-put}
 use Rattle.calls.proofs.PutIn.{asc-weaken}

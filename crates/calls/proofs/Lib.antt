@@ -1,3 +1,4 @@
+pub mod PieceRuns
 pub mod Kept
 pub mod Entries
 pub mod ByPlace

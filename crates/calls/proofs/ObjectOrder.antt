@@ -8,10 +8,15 @@ use native.Mathlib.Nat.{add-suc}
 use native.Mathlib.Omega.{arith}
 use Rattle.bits.proofs.Tests.{by-test}
 use Rattle.model.specs.Pieces.{Piece, keep, rotate}
-use Rattle.calls.specs.Order.{Ascending, rank, InOrder}
+use Rattle.calls.specs.Order.{Ascending, rank}
 use Rattle.calls.specs.Edits.{put}
 use Rattle.calls.proofs.ByPlace.{keep-insert-no}
 use Rattle.calls.proofs.PutIn.{insert-first, asc-insert, keep-insert}
+
+-- the pieces lie on the disc's n bits and come in object order, each from `from` on
+abbrev pub InOrder : (Piece → Bool) → ℕ → ℕ → List Piece → Type 0
+InOrder late n from [] = Unit {0}
+InOrder late n from (p ∷ ps) = (p .at .start < n) × (from ≤ rank late n p) × InOrder late n (suc (rank late n p)) ps
 
 -- the pieces from the start zone on ascend
 pub asc-of-late : (t : Piece → Bool) (n k : ℕ) (l r : List Piece) → InOrder t n k (keep t l ++ r) → Ascending k (keep t l)

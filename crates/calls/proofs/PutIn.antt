@@ -39,10 +39,6 @@ asc-insert f p (x ∷ xs) a =
     (λ h. let b : Ascending f (p ∷ x ∷ xs) = simp h at a in (omega arith, b .1 .1))
     (λ h. let b : Ascending f (x ∷ insert p xs) = simp h at a in (b .0, asc-insert (suc (x .at .start)) p xs (b .1)))
 
-pub asc-put : (f : ℕ) (ps l : List Piece) → Ascending f (put ps l) → Ascending f l
-asc-put f [] l a = a
-asc-put f (p ∷ ps) l a = asc-put f ps l (asc-insert f p (put ps l) a)
-
 -- a test and a piece put in
 pub keep-insert : (t : Piece → Bool) (f : ℕ) (p : Piece) (l : List Piece) → Ascending f l → t p ≡ true → keep t (insert p l) ≡ insert p (keep t l)
 keep-insert t f p l a e = keep-insert-by-place t f p l (asc-weak f l a) e

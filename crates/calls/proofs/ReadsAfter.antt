@@ -10,8 +10,8 @@ use Rattle.geometry.specs.Accepted.{AcceptedGeometry}
 use Rattle.model.specs.Chain.{Pair}
 use Rattle.model.specs.Pieces.{Piece, isOf, piecesOf, late, rotate, objectPairs}
 use Rattle.calls.specs.Edits.{Disc, notOf, without, own, give, Edit, takes, gives, edit}
-use Rattle.calls.specs.Judge.{Call, Verdict, accepted, judge, obey}
-use Rattle.calls.specs.Runs.{after}
+use Rattle.calls.specs.Judge.{Call, Verdict, accepted, judge}
+use Rattle.calls.proofs.PieceRuns.{obey, after}
 use Rattle.calls.proofs.Kept.{All, keep-keep, keep-none}
 use Rattle.calls.proofs.PutIn.{keep-put-no}
 use Rattle.calls.proofs.Undo.{Allowed, read-back}

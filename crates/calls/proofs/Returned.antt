@@ -129,15 +129,20 @@ place-back g ok id l k al t n =
     let d : allApart g 0 (g .zones) (give id (pairsFrom (numbersOf qs)) (without id l)) ≡ true = subst (λ (x : List Piece). allApart g 0 (g .zones) x ≡ true) (sym b) (apart-all g 0 (g .zones) l (λ i lo hi. k .parts i (omega arith))) in
     simp (t, c, f, d) (ap (λ (x : List Pair). accepted (gives id x)) e)
 
+-- an object that is there can be released, with room for its list
+pub release-listed : (g : Geometry) (id room : ℕ) (l : List Piece) → editable g id ≡ true → (objectPairs g id l ≡ [] → ⊥) → 2 * length (objectPairs g id l) ≤ room
+    → judge g l (release id room) ≡ accepted (takes id (objectPairs g id l))
+release-listed g id room l t n r =
+    let c : not (isEmpty (piecesOf id l)) ≡ true = not-empty (piecesOf id l) (λ x. n (ap (λ (ps : List Piece). map (λ p. p .at) (rotate (late g id) ps)) x)) in
+    simp (t, c, le-leb (2 * length (objectPairs g id l)) room r)
+  where
+    not-empty : (ps : List Piece) → (ps ≡ [] → ⊥) → not (isEmpty ps) ≡ true
+    not-empty [] n = absurd (n refl)
+    not-empty (p ∷ ps) n = refl
+
 -- pairs that were given can be released, with room for them
 pub release-back : (g : Geometry) (id room : ℕ) (qs : List Pair) (l : List Piece) → Allowed g l (gives id qs) → editable g id ≡ true → (qs ≡ [] → ⊥) → 2 * length qs ≤ room
     → judge g (give id qs l) (release id room) ≡ accepted (takes id qs)
 release-back g id room qs l h t n r =
     let e : objectPairs g id (give id qs l) ≡ qs = read-back g id qs l h in
-    let c : not (isEmpty (piecesOf id (give id qs l))) ≡ true = not-empty (piecesOf id (give id qs l)) (λ x. n (sym e ∙ ap (λ (ps : List Piece). map (λ p. p .at) (rotate (late g id) ps)) x)) in
-    let d : leb (2 * length (objectPairs g id (give id qs l))) room ≡ true = le-leb (2 * length (objectPairs g id (give id qs l))) room (omega (arith, ap length e)) in
-    simp (t, c, d) (ap (λ (x : List Pair). accepted (takes id x)) e)
-  where
-    not-empty : (ps : List Piece) → (ps ≡ [] → ⊥) → not (isEmpty ps) ≡ true
-    not-empty [] n = absurd (n refl)
-    not-empty (p ∷ ps) n = refl
+    release-listed g id room (give id qs l) t (λ x. n (sym e ∙ x)) (omega (arith, ap length e)) ∙ ap (λ (x : List Pair). accepted (takes id x)) e

@@ -18,8 +18,9 @@ use Rattle.model.specs.Pieces.{Piece, piecesOf, objectPairs}
 use Rattle.model.proofs.Options.{none-some, some-some}
 use Rattle.calls.specs.Edits.{Disc, own, give, crossed, Edit, takes, gives, pairsIn, edit}
 use Rattle.calls.specs.Holes.{holesFrom, allApart}
-use Rattle.calls.specs.Judge.{Call, release, place, claim, Verdict, refused, accepted, unless, isEmpty, editable, pairsFrom, pairsFit, listFits, need, firstHole, taken, lowest, claimIn, judge, obey}
-use Rattle.calls.specs.Runs.{after, run, kept, edits, Undone, crossRun}
+use Rattle.calls.specs.Judge.{Call, release, place, claim, Verdict, refused, accepted, unless, isEmpty, editable, pairsFrom, pairsFit, listFits, need, firstHole, taken, lowest, claimIn, judge}
+use Rattle.calls.specs.Runs.{Undone, crossRun}
+use Rattle.calls.proofs.PieceRuns.{obey, run, kept, edits}
 use Rattle.calls.proofs.Kept.{all-put-in}
 use Rattle.calls.proofs.Undo.{Allowed, Trace, undone}
 use Rattle.calls.proofs.Invariant.{FitPieces, fit-asc, fit-without, zoned-on-disc, list-order, fit-give}
@@ -52,6 +53,25 @@ lowest-lt l (suc n) id i h =
     (λ t. let k : id ≡ i = some-some (simp t at h) in (omega arith, omega arith))
     (λ t. let k = lowest-lt l n (suc id) i (simp t at h) in (omega arith, omega arith))
 
+-- the tests that an accepted release or place has passed, and its edit
+pub release-tests : (g : Geometry) (l : List Piece) (id room : ℕ) (e : Edit) → judge g l (release id room) ≡ accepted e
+    → (editable g id ≡ true) × (not (isEmpty (piecesOf id l)) ≡ true) × (leb (2 * length (objectPairs g id l)) room ≡ true) × (takes id (objectPairs g id l) ≡ e)
+release-tests g l id room e h =
+    let qs = objectPairs g id l in
+    let a = unless-inv (editable g id) 8 (unless (not (isEmpty (piecesOf id l))) 10 (unless (leb (2 * length qs) room) 17 (accepted (takes id qs)))) e h in
+    let b = unless-inv (not (isEmpty (piecesOf id l))) 10 (unless (leb (2 * length qs) room) 17 (accepted (takes id qs))) e (a .1) in
+    let c = unless-inv (leb (2 * length qs) room) 17 (accepted (takes id qs)) e (b .1) in
+    (a .0, b .0, c .0, same-edit {a = takes id qs} (c .1))
+
+pub place-tests : (g : Geometry) (l : List Piece) (id : ℕ) (list : List ℕ) (e : Edit) → judge g l (place id list) ≡ accepted e
+    → (editable g id ≡ true) × (piecesOf id l ≡ []) × (listFits g id list ≡ true) × (allApart g 0 (g .zones) (give id (pairsFrom list) l) ≡ true) × (gives id (pairsFrom list) ≡ e)
+place-tests g l id list e h =
+    let a = unless-inv (editable g id) _ _ e h in
+    let b = unless-inv (isEmpty (piecesOf id l)) _ _ e (a .1) in
+    let c = unless-inv (listFits g id list) _ _ e (b .1) in
+    let d = unless-inv (allApart g 0 (g .zones) (give id (pairsFrom list) l)) _ _ e (c .1) in
+    (a .0, empty (piecesOf id l) (b .0), c .0, d .0, same-edit (d .1))
+
 -- an edit that may be undone and keeps the invariant
 abbrev pub EditFits : Geometry → List Piece → Edit → Type 0
 EditFits g l e = Allowed g l e × ((cross : List ℕ) → FitPieces g ((edit g e (record { pieces = l; cross = cross })) .pieces))
@@ -59,20 +79,13 @@ EditFits g l e = Allowed g l e × ((cross : List ℕ) → FitPieces g ((edit g e
 -- what an accepted call edits
 pub allowed : (g : Geometry) (l : List Piece) (c : Call) (e : Edit) → AcceptedGeometry g → FitPieces g l → judge g l c ≡ accepted e → EditFits g l e
 allowed g l (release id room) e f k h =
-    let qs = objectPairs g id l in
-    let a = unless-inv (editable g id) 8 (unless (not (isEmpty (piecesOf id l))) 10 (unless (leb (2 * length qs) room) 17 (accepted (takes id qs)))) e h in
-    let b = unless-inv (not (isEmpty (piecesOf id l))) 10 (unless (leb (2 * length qs) room) 17 (accepted (takes id qs))) e (a .1) in
-    let c = unless-inv (leb (2 * length qs) room) 17 (accepted (takes id qs)) e (b .1) in
-    subst (EditFits g l) (same-edit {a = takes id qs} (c .1)) (refl, λ x. fit-without g id l k)
+    subst (EditFits g l) (release-tests g l id room e h .3) (refl, λ x. fit-without g id l k)
 allowed g l (place id list) e f k h =
-    let a = unless-inv (editable g id) _ _ e h in
-    let b = unless-inv (isEmpty (piecesOf id l)) _ _ e (a .1) in
-    let c = unless-inv (listFits g id list) _ _ e (b .1) in
-    let d = unless-inv (allApart g 0 (g .zones) (give id (pairsFrom list) l)) _ _ e (c .1) in
-    let ok : pairsFit g id 0 (pairsFrom list) ≡ true = (both (ltb 0 (length list) && eqb (length list % 2) 0) (pairsFit g id 0 (pairsFrom list)) (c .0)) .1 in
-    let fits = fit-give g id (pairsFrom list) l f k ((both (leb 3 id) (ltb id (g .ids * g .zones)) (a .0)) .1) ok (d .0) in
-    subst (EditFits g l) (same-edit (d .1))
-    ((empty (piecesOf id l) (b .0), list-order g id 0 (pairsFrom list) f ok, fit-asc g (give id (pairsFrom list) l) f fits), λ x. fits)
+    let t = place-tests g l id list e h in
+    let ok : pairsFit g id 0 (pairsFrom list) ≡ true = (both (ltb 0 (length list) && eqb (length list % 2) 0) (pairsFit g id 0 (pairsFrom list)) (t .2)) .1 in
+    let fits = fit-give g id (pairsFrom list) l f k ((both (leb 3 id) (ltb id (g .ids * g .zones)) (t .0)) .1) ok (t .3) in
+    subst (EditFits g l) (t .4)
+    ((t .1, list-order g id 0 (pairsFrom list) f ok, fit-asc g (give id (pairsFrom list) l) f fits), λ x. fits)
 allowed g l (claim size) e f k h =
     let a = unless-inv (ltb 0 size) _ _ e h in
     go (lowest l (g .ids * g .zones - 3) 3) refl (firstHole (need g size) (holesFrom g 0 (g .zones) l)) refl (a .1)
@@ -126,7 +139,3 @@ run-cross g s (c ∷ cs) = go (judge g (s .pieces) c) (λ r. run-cross g r cs)
 -- where the pieces are as they were, all is, but for the cross checks
 pub run-same : (g : Geometry) (s : Disc) (cs : List Call) → (run g s cs) .pieces ≡ s .pieces → run g s cs ≡ record { pieces = s .pieces; cross = crossRun g (edits g s cs) (s .cross) }
 run-same g s cs h = λ i. record { pieces = h i; cross = run-cross g s cs i }
-
--- a call keeps the invariant
-pub fit-step : (g : Geometry) (s : Disc) (c : Call) → AcceptedGeometry g → FitPieces g (s .pieces) → FitPieces g ((after g s c) .pieces)
-fit-step g s c f k = run-fit g s (c ∷ []) f k

@@ -2,7 +2,7 @@
 -- zone starts where an earlier one ends, or after.
 use mathlib.Core.Path.{_≡_, refl, sym, ap, subst}
 use mathlib.Core.Bool.{Bool, true}
-use mathlib.Core.List.{List, [], _∷_, map}
+use mathlib.Core.List.{List, [], _∷_}
 use Prim.Native.Nat.{ℕ, suc, _+_, _-_, _*_, _<_, _≤_}
 use native.Mathlib.Nat.{mul-le-mul-right, div-lt-iff-lt-mul}
 use native.Mathlib.Omega.{arith}
@@ -14,7 +14,7 @@ use Rattle.geometry.specs.Accepted.{AcceptedGeometry}
 use Rattle.geometry.specs.Places.{zoneOf, zoneFrom, zoneEnd, discBits}
 use Rattle.model.specs.Pieces.{Piece, keep}
 use Rattle.model.proofs.ChainDrawn.{Lies}
-use Rattle.calls.specs.Edits.{without, inZone}
+use Rattle.calls.specs.Edits.{inZone}
 use Rattle.calls.specs.Holes.{gapFits, apart}
 use Rattle.calls.proofs.Kept.{All, all-keep}
 use Rattle.calls.proofs.ByPlace.{Weak}

@@ -11,12 +11,12 @@ use Rattle.geometry.specs.declared.Geometry.{Geometry}
 use Rattle.geometry.specs.Places.{discBits}
 use Rattle.model.specs.Chain.{Pair}
 use Rattle.model.specs.Pieces.{Piece, keep, isOf, piecesOf, late, rotate, objectPairs}
-use Rattle.calls.specs.Order.{Ascending, InOrder}
+use Rattle.calls.specs.Order.{Ascending}
 use Rattle.calls.specs.Edits.{Disc, notOf, without, put, own, give, crossed, Edit, takes, gives, edit}
 use Rattle.calls.specs.Runs.{Cancel, released, restored, Undone, nothing, strike}
 use Rattle.calls.proofs.Kept.{All, all-kept, all-keep, all-append}
 use Rattle.calls.proofs.PutIn.{asc-keep, put-rotate, put-kept, keep-put, keep-put-no, without-absent}
-use Rattle.calls.proofs.ObjectOrder.{order-back}
+use Rattle.calls.proofs.ObjectOrder.{InOrder, order-back}
 
 -- cross checks changed twice alike
 pub each-twice : (cs vs : List ℕ) → xorEach (xorEach cs vs) vs ≡ cs

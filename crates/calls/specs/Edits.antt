@@ -1,6 +1,6 @@
 -- What an edit does to a map's pieces and cross checks (document 01, "Release", "Place", "Zone check and cross check").
 -- The pieces of a map are one list, ascending by disc bit; the gaps in each zone are its holes. Assumes nothing.
-use mathlib.Core.Bool.{Bool, true, false, cond, not, _||_}
+use mathlib.Core.Bool.{Bool, false, cond, not, _||_}
 use mathlib.Core.List.{List, [], _∷_, map}
 use Prim.Native.Nat.{ℕ, zero, suc}
 use lib.Dec.{eqb, ltb}

@@ -11,7 +11,7 @@ use Rattle.geometry.specs.Places.{zoneOf, zoneEnd, discBits, idFrom}
 use Rattle.model.specs.Chain.{Pair}
 use Rattle.model.specs.Pieces.{Piece, piecesOf, late, objectPairs}
 use Rattle.calls.specs.Order.{rank}
-use Rattle.calls.specs.Edits.{Disc, own, give, Edit, takes, gives, edit}
+use Rattle.calls.specs.Edits.{own, give, Edit, takes, gives}
 use Rattle.calls.specs.Holes.{holesFrom, allApart}
 
 -- a release of an id with room for so many entries; a place of a list under an id; a claim of so many bytes
@@ -104,8 +104,3 @@ judgeRest g l (claim size) =
 
 abbrev pub judge : Geometry → List Piece → Call → Verdict
 judge g l c = unless (numberFits g c) 8 (judgeRest g l c)
-
--- the disc after the verdict
-abbrev pub obey : Geometry → Verdict → Disc → Disc
-obey g (refused n) s = s
-obey g (accepted e) s = edit g e s

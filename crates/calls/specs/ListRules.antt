@@ -5,11 +5,9 @@ use mathlib.Core.List.{List}
 use Prim.Native.Nat.{ℕ, _+_, _%_, _<_, _≤_}
 use lib.ListN.{length}
 use Rattle.geometry.specs.declared.Geometry.{Geometry}
-use Rattle.geometry.specs.Places.{zoneOf, discBits}
+use Rattle.geometry.specs.Places.{zoneOf, discBits, startZone}
 use Rattle.model.specs.Chain.{Pair, Within}
-use Rattle.model.specs.Pieces.{late}
-use Rattle.calls.specs.Order.{rank}
-use Rattle.calls.specs.Edits.{own}
+use Rattle.model.specs.Pieces.{InObjectOrder}
 use Rattle.calls.specs.Judge.{pairsFrom}
 use Rattle.calls.specs.Room.{In, Earlier, ShareNone}
 
@@ -35,6 +33,6 @@ pub record ListRules (g : Geometry) (id : ℕ) (list : List ℕ) : Type 0 where
   -- each pair keeps the rules of one
   pub pairs : (q : Pair) → In q (pairsFrom list) → PairRules g q
   -- not "out of object order"
-  pub in-order : (q p : Pair) → Earlier q p (pairsFrom list) → rank (late g id) (discBits g) (own id q) < rank (late g id) (discBits g) (own id p)
+  pub in-order : (q p : Pair) → Earlier q p (pairsFrom list) → InObjectOrder g (startZone g id) q p
   -- not "overlapping"
   pub separate : (q p : Pair) → Earlier q p (pairsFrom list) → ShareNone q p

@@ -1,8 +1,7 @@
 -- Pieces in order: by disc bit on the map, and in object order in a list (document 01, "Object order"). Assumes nothing.
 use mathlib.Core.Bool.{Bool, cond}
 use mathlib.Core.List.{List, [], _∷_}
-use Prim.Native.Nat.{ℕ, suc, _+_, _<_, _≤_}
-use Rattle.model.specs.Chain.{Pair}
+use Prim.Native.Nat.{ℕ, suc, _+_, _≤_}
 use Rattle.model.specs.Pieces.{Piece}
 
 -- every piece starts at or after `from`, and the starts ascend
@@ -14,8 +13,3 @@ Ascending from (p ∷ ps) = (from ≤ p .at .start) × Ascending (suc (p .at .st
 -- bits
 abbrev pub rank : (Piece → Bool) → ℕ → Piece → ℕ
 rank late n p = cond (late p) (p .at .start) (n + p .at .start)
-
--- the pieces lie on the disc's n bits and come in object order, each from `from` on
-abbrev pub InOrder : (Piece → Bool) → ℕ → ℕ → List Piece → Type 0
-InOrder late n from [] = Unit {0}
-InOrder late n from (p ∷ ps) = (p .at .start < n) × (from ≤ rank late n p) × InOrder late n (suc (rank late n p)) ps

@@ -9,7 +9,7 @@
 // and by byte columns as document 000 has it; `CheckLaws` says that they agree on every block. The product
 // uses the words.
 ghost use mathlib.Core.Path.{_≡_};
-ghost use Prim.Native.Nat.{ℕ, _+_, _*_, _^_, _<_, _≤_};
+ghost use Prim.Native.Nat.{_+_, _*_, _^_, _<_, _≤_};
 ghost use lib.ListN.{length, getD};
 ghost use Rattle.checks.specs.Words.{word, foldBytes, zoneCheck};
 ghost use Rattle.checks.specs.Columns.{noSums, added, foldColumns, columnCheck};

@@ -9,17 +9,17 @@ use native.Mathlib.Omega.{arith}
 use lib.Dec.{ltb, leb}
 use lib.ListN.{length, getD, set, take, length-set, List·getD-append}
 use lib.Pow.{pow-mono}
-use lib.Seq.{take-at}
 use borrow.Author.Tests.{ltb-true}
 use Rattle.bits.proofs.Tests.{both}
 use Rattle.geometry.specs.declared.Geometry.{Geometry}
 use Rattle.geometry.specs.Accepted.{AcceptedGeometry}
 use Rattle.model.specs.Chain.{Holder, free, owned, Entry}
 use Rattle.model.specs.Rules.{zoneBlock}
-use Rattle.model.specs.Verdict.{every, holderFits, idFits}
+use Rattle.model.specs.Check.{every, holderFits, idFits}
 use Rattle.zone.specs.Lines.{entriesIn, lines, holderNumber}
 use Rattle.zone.proofs.ListWalk.{length-lines}
 use Rattle.zone.proofs.LineThrees.{linesLeft, next-line, no-line}
+use Rattle.holes.proofs.OwnersSome.{lines-written}
 use Rattle.claim.specs.Unused.{cleared, holdersIn, holdersOf, holdersFrom}
 
 pub cleared-append : (hs ks : List ℕ) (bits : List Bool) → cleared (hs ++ ks) bits ≡ cleared ks (cleared hs bits)
@@ -63,9 +63,7 @@ line-low g z (e ∷ es) k f (suc i) h =
 
 module _ (g : Geometry) (z n : ℕ) (es : List Entry) (l r : List ℕ) (e : n ≡ length es) (q : l ≡ lines g z es ++ r) where
   pub zone-holders : holdersIn (take (3 * n) l) ≡ holdersOf es
-  zone-holders =
-      let k : length (lines g z es) ≡ 3 * n = length-lines g z es ∙ ap (λ (x : ℕ). 3 * x) (sym e) in
-      ap holdersIn (ap (take (3 * n)) q ∙ take-at (lines g z es) r (3 * n) k) ∙ holders-lines g z es
+  zone-holders = ap holdersIn (lines-written g z n es l r e q) ∙ holders-lines g z es
 
   pub zone-holders-low : 0 < g .ids * g .zones → every (idFits g) es ≡ true → (i : ℕ) → i < n → getD l (3 * i) 0 < g .ids * g .zones
   zone-holders-low k f i h =

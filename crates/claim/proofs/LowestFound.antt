@@ -21,13 +21,13 @@ use Rattle.model.specs.Rules.{zoneBlock}
 use Rattle.model.specs.Pieces.{Piece, ownedIf, ownedOf, pieceToDisc, piecesOfZones, piecesOf}
 use Rattle.zone.specs.Lines.{entriesIn, holderNumber}
 use Rattle.zone.proofs.EntriesRead.{is-read}
-use Rattle.map.specs.Accepted.{AcceptedMap}
 use Rattle.listing.proofs.HeldZones.{ReadInTurn, zones-in-turn}
 use Rattle.calls.specs.Judge.{isEmpty, lowest}
-use Rattle.calls.proofs.Invariant.{FitPieces}
 use Rattle.calls.proofs.Fourteen.{no-fourteen}
-use Rattle.runs.specs.Editable.{zonesOf, zonesIn, Editable, piecesOn}
-use Rattle.runs.proofs.MapAccepted.{map-disc}
+use Rattle.runs.specs.Editable.{zonesOf, piecesOn}
+use Rattle.holes.specs.EditableMap.{EditableMap}
+use Rattle.holes.proofs.ZonesTouching.{zones-are}
+use Rattle.holes.proofs.EditableMap.{map-pieces}
 use Rattle.claim.specs.Unused.{cleared, holdersOf, holdersFrom}
 use Rattle.claim.proofs.Cleared.{cleared-append, length-cleared, holders-turn, holders-end, ids-some, ids-small}
 
@@ -96,14 +96,11 @@ lowest-found l bits (suc n) id h k e =
     let not-none : lowest l n (suc id) ≡ none → ⊥ = λ q. e (simp t q) in
     simp t (lowest-found l bits n (suc id) (omega arith) (λ i lo hi. k i (omega arith) (omega arith)) not-none ∙ ap some s))
 
--- the pieces of a map that edits work on
-pub fit-pieces : {m : List ℕ} {g : Geometry} → AcceptedMap m g → Editable m → FitPieces g (piecesOn g m)
-fit-pieces {m} {g} a ed = subst (λ (x : Geometry). FitPieces x (piecesOn x m)) (sym (a .geometry)) (map-disc m (zonesOf m) (ed .bytes) (ed .accepted) (ed .apart) .pieces .fit)
-
-pub unused-found : {m : List ℕ} {g : Geometry} → AcceptedMap m g → Editable m → (s : List ℕ) → byteBits s ≡ cleared (holdersFrom g m 0 (g .zones)) (byteBits (replicate 65536 255))
+-- of a map that edits work on
+pub unused-found : {m : List ℕ} {g : Geometry} → EditableMap m g → (s : List ℕ) → byteBits s ≡ cleared (holdersFrom g m 0 (g .zones)) (byteBits (replicate 65536 255))
     → lowest (piecesOn g m) (g .ids * g .zones - 3) 3 ≡ some (3 + zeros (slice 3 (g .ids * g .zones) (byteBits s)))
-unused-found {m} {g} a ed s e =
-    lowest-found (piecesOn g m) (byteBits s) (g .ids * g .zones - 3) 3 (omega (arith, long, ids-small g (a .numbers), ids-some g (a .numbers))) bit (no-fourteen g (piecesOn g m) (a .numbers) (fit-pieces a ed))
+unused-found {m} {g} ed s e =
+    lowest-found (piecesOn g m) (byteBits s) (g .ids * g .zones - 3) 3 (omega (arith, long, ids-small g (ed .accepted .numbers), ids-some g (ed .accepted .numbers))) bit (no-fourteen g (piecesOn g m) (ed .accepted .numbers) (map-pieces ed .fit))
     ∙ ap (λ (n : ℕ). some (3 + zeros (slice 3 n (byteBits s)))) top
   where
     full-long : length (byteBits (replicate 65536 255)) ≡ 524288
@@ -113,14 +110,14 @@ unused-found {m} {g} a ed s e =
     long = ap length e ∙ length-cleared (holdersFrom g m 0 (g .zones)) (byteBits (replicate 65536 255)) ∙ full-long
 
     top : 3 + (g .ids * g .zones - 3) ≡ g .ids * g .zones
-    top = omega (arith, ids-some g (a .numbers))
+    top = omega (arith, ids-some g (ed .accepted .numbers))
 
     turns : ReadInTurn m g 0 (zonesOf m)
-    turns = subst (ReadInTurn m g 0) (sym (ap zonesIn (a .read))) (zones-in-turn a)
+    turns = subst (ReadInTurn m g 0) (sym (zones-are (ed .accepted))) (zones-in-turn (ed .accepted))
 
     bit : (i : ℕ) → 3 ≤ i → i < 3 + (g .ids * g .zones - 3) → getD (byteBits s) i false ≡ isEmpty (piecesOf i (piecesOn g m))
     bit i lo hi =
-        let h : i < 524288 = omega (arith, ids-small g (a .numbers)) in
+        let h : i < 524288 = omega (arith, ids-small g (ed .accepted .numbers)) in
         ap (λ (b : List Bool). getD b i false) e
         ∙ ap (λ (n : ℕ). getD (cleared (holdersFrom g m 0 n) (byteBits (replicate 65536 255))) i false) (sym (sub-zero (g .zones)))
         ∙ zones-bit g i (omega arith) m 0 (zonesOf m) turns (byteBits (replicate 65536 255)) (omega (arith, full-long))

@@ -19,13 +19,13 @@ abbrev pub byEdit : Edit → Claimed
 byEdit (takes id qs) = claimed.Refused (refusal 0 0)
 byEdit (gives id qs) = pieceOf id qs
 
-abbrev pub answerOf : Outcome → Claimed
-answerOf (refused n z) = claimed.Refused (refusal n z)
-answerOf (done e s) = byEdit e
+abbrev pub claimAnswer : Outcome → Claimed
+claimAnswer (refused n z) = claimed.Refused (refusal n z)
+claimAnswer (done e s) = byEdit e
 
 -- the answer and every byte of the map
 pub record Claims (m : List ℕ) (size : ℕ) (r : Claimed) (after : List ℕ) : Type 0 where
-  pub answer : r ≡ answerOf (outcome m (call.claim size))
+  pub answer : r ≡ claimAnswer (outcome m (call.claim size))
   pub bytes : after ≡ step m (call.claim size)
 
 -- the paper's numbers: refusal (0: accepted), zone told, id, disc bit, length

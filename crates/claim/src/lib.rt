@@ -1,5 +1,5 @@
-// Claim (document 01): given a size in bytes, takes the first hole that is long enough for the lowest unused id. One pass over the
-// map marks the used ids in a local bitmap, one looks for the hole.
+// Claim (document 01): given a size in bytes, gives the lowest unused id the first hole that is long enough. One pass over the map
+// looks for the hole, one clears the bits of the used ids in a local bitmap.
 use geometry::DiscBit;
 use geometry::Geometry;
 use geometry::Refusal;
@@ -17,10 +17,11 @@ ghost use Rattle.bits.specs.Bits.{byteBits};
 ghost use Rattle.geometry.specs.Accepted.{AcceptedGeometry};
 ghost use Rattle.zone.specs.Lines.{entriesIn};
 ghost use Rattle.map.specs.Accepted.{AcceptedMap};
-ghost use Rattle.listing.specs.HeldBy.{ReadZone};
+ghost use Rattle.listing.specs.HeldBy.{SoundZone};
 ghost use Rattle.calls.specs.Judge.{need, lowest, place};
 ghost use Rattle.runs.specs.Steps.{step};
-ghost use Rattle.runs.specs.Editable.{Editable, piecesOn};
+ghost use Rattle.runs.specs.Editable.{piecesOn};
+ghost use Rattle.holes.specs.EditableMap.{EditableMap};
 ghost use Rattle.claim.specs.Claimed.{Claims};
 ghost use Rattle.claim.specs.Given.{PieceFits};
 ghost use Rattle.claim.specs.Unused.{cleared, holdersIn, holdersOf, holdersFrom};
@@ -62,7 +63,7 @@ fn claim_checked(map: &mut [u8], g: Geometry, size: u64) -> Claimed
 
 // Room for some bytes: the first hole that is long enough, or 15. An unused id is always there, so nothing is refused with 14.
 fn claim_room(map: &mut [u8], g: Geometry, size: u64) -> Claimed
-    requires { ⌜ AcceptedMap (now map) g × Editable (now map) × (0 < size) ⌝ }
+    requires { ⌜ EditableMap (now map) g × (0 < size) ⌝ }
     ensures { λ r. ⌜ Claims (now (map .entry)) size r (now (map .exit)) ⌝ }
 {
     let bits = need_of(g, size);
@@ -102,7 +103,7 @@ fn taken_of(g: Geometry, need: usize, hole: u32) -> u32
     requires { ⌜ AcceptedGeometry g × (need ≤ hole) ⌝ }
     ensures { λ r. ⌜ r ≡ cond (ltb hole (need + g .shortest)) hole need ⌝ }
 {
-    if (hole as usize) < need + g.shortest {
+    if (hole as usize) < need + g.shortest_fragment() {
         return hole;
     }
     need as u32
@@ -110,7 +111,7 @@ fn taken_of(g: Geometry, need: usize, hole: u32) -> u32
 
 // The lowest unused id from 3 on. There is a bit for every id, 1 while the id is not seen in the map.
 fn lowest_unused(map: &[u8], g: Geometry) -> u32
-    requires { ⌜ AcceptedMap (now map) g × Editable (now map) ⌝ }
+    requires { ⌜ EditableMap (now map) g ⌝ }
     ensures { λ r. ⌜ lowest (piecesOn g (now (map .entry))) (g .ids * g .zones - 3) 3 ≡ some r ⌝ }
 {
     let mut unused = [255u8; 65536];
@@ -137,7 +138,7 @@ fn clear_used(map: &[u8], g: Geometry, unused: &mut [u8])
 
 // Clears the bit of every id in zone z.
 fn clear_zone(block: &[u8], z: usize, g: Geometry, unused: &mut [u8])
-    requires { ⌜ ReadZone g z (now block) × (g .ids * g .zones ≤ length (now unused) * 8) ⌝ }
+    requires { ⌜ SoundZone g z (now block) × (g .ids * g .zones ≤ length (now unused) * 8) ⌝ }
     ensures { λ _. ⌜ byteBits (now (unused .exit)) ≡ cleared (holdersOf (entriesIn g z (now (block .entry)))) (byteBits (now (unused .entry))) ⌝ }
 {
     let mut lines = [0u32; 2048];

@@ -8,7 +8,7 @@
 // What the id means is not decided here: on the free chain it leads to the next free fragment, elsewhere it is the owner
 // (crate `zone`).
 ghost use mathlib.Core.Path.{_≡_};
-ghost use Prim.Native.Nat.{ℕ, _+_, _*_, _^_, _<_, _≤_};
+ghost use Prim.Native.Nat.{_+_, _*_, _^_, _<_, _≤_};
 ghost use lib.ListN.{length};
 ghost use lib.Seq.{slice};
 ghost use Rattle.bits.specs.Bits.{byteBits, zeros};

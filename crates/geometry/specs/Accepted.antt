@@ -2,7 +2,7 @@
 -- ids of 19 bits, and how the numbers hang together. A geometry that was not read from a record may lack all of this,
 -- so code that needs it says so. Assumes nothing.
 use mathlib.Core.Path.{_≡_}
-use Prim.Native.Nat.{ℕ, _+_, _-_, _*_, _/_, _%_, _^_, _<_, _≤_}
+use Prim.Native.Nat.{_+_, _-_, _*_, _/_, _%_, _^_, _<_, _≤_}
 use Rattle.geometry.specs.declared.Geometry.{Geometry}
 
 -- numbers small enough to be multiplied: what the fields alone give

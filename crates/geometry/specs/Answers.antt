@@ -30,6 +30,11 @@ byLength false r = r
 abbrev pub recordOf : List ℕ → RecordRead
 recordOf m = byLength (ltb (length m) 64) (byFit (recordFits (discRecord m)) (geometryOf m))
 
+-- the paper's numbers: refusal (0: accepted) and zone told
+abbrev pub recordNumbers : RecordRead → ℕ × ℕ
+recordNumbers (read.Accepted g) = (0, 0)
+recordNumbers (read.Refused r) = (r .number, r .zone)
+
 -- the start zone of an id from 1 to P*nzones - 1; "any other is refused with 8"
 abbrev pub byName : Bool → ℕ → Start
 byName true z = start.Zone z

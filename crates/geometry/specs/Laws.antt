@@ -1,10 +1,9 @@
 -- What holds of records, geometries and places. Assumes nothing.
 use mathlib.Core.Path.{_≡_}
-use mathlib.Core.Bool.{Bool, true, false}
-use mathlib.Core.List.{List, [], _∷_}
-use Prim.Native.Nat.{ℕ, _+_, _*_, _<_, _≤_}
+use mathlib.Core.Bool.{true}
+use mathlib.Core.List.{List}
+use Prim.Native.Nat.{ℕ, _*_, _<_, _≤_}
 use Rattle.geometry.specs.declared.Geometry.{Geometry}
-use Rattle.geometry.specs.declared.Start.{Start}
 use Rattle.geometry.specs.Record.{geometryIn, geometryFrom}
 use Rattle.geometry.specs.Ranges.{RecordRules, recordFits}
 use Rattle.geometry.specs.Accepted.{AcceptedGeometry}

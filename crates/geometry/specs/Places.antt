@@ -1,6 +1,6 @@
 -- Places on the disc (document 01, "Bits, fragments, chains"). A block bit counts within a zone's block, a disc bit
 -- over the disc; the one formula between them is z*Z + b - 512. Assumes nothing.
-use mathlib.Core.Bool.{Bool, true, false, cond, _&&_}
+use mathlib.Core.Bool.{Bool, cond, _&&_}
 use Prim.Native.Nat.{ℕ, suc, _+_, _-_, _*_, _/_}
 use lib.Dec.{eqb, ltb, leb}
 use Rattle.geometry.specs.declared.Geometry.{Geometry}

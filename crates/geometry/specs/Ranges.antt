@@ -6,7 +6,7 @@ use mathlib.Core.List.{List}
 use Prim.Native.Nat.{ℕ, _+_, _-_, _*_, _%_, _^_, _<_, _≤_}
 use lib.Dec.{eqb, ltb, leb}
 use Rattle.geometry.specs.declared.Geometry.{Geometry}
-use Rattle.geometry.specs.Record.{logSector, idLength, logUnit, zoneCount, zoneSpare, discSize, geometryIn}
+use Rattle.geometry.specs.Record.{logSector, idLength, logUnit, zoneCount, zoneSpare, geometryIn}
 
 -- the two bounds that later editions of the format raise
 abbrev pub mostZones : ℕ

@@ -1,7 +1,7 @@
 -- The disc record and what it fixes (document 01, "The disc record and its ranges"). Assumes nothing.
-use mathlib.Core.Bool.{Bool, true, false, cond}
+use mathlib.Core.Bool.{cond}
 use mathlib.Core.List.{List}
-use Prim.Native.Nat.{ℕ, _+_, _-_, _*_, _/_, _%_, _^_}
+use Prim.Native.Nat.{ℕ, _+_, _-_, _*_, _/_, _^_}
 use lib.Dec.{ltb}
 use lib.ListN.{getD, take, drop}
 use Rattle.geometry.specs.declared.Geometry.{Geometry}

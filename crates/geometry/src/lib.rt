@@ -4,12 +4,12 @@ use bits::both;
 use bits::minus;
 use bits::wide;
 ghost use mathlib.Core.Path.{_≡_};
-ghost use Prim.Native.Nat.{ℕ, _+_, _-_, _*_, _/_, _%_, _^_, _<_, _≤_};
+ghost use Prim.Native.Nat.{_+_, _-_, _*_, _/_, _%_, _^_, _<_, _≤_};
 ghost use lib.ListN.{length};
-ghost use Rattle.geometry.specs.Record.{clusterOf, roundUp, geometryFrom, zoneSpare, discSize};
+ghost use Rattle.geometry.specs.Record.{clusterOf, geometryFrom, zoneSpare, discSize};
 ghost use Rattle.geometry.specs.Ranges.{FieldRules, between, fieldsFit, geometryFits};
 ghost use Rattle.geometry.specs.Accepted.{SmallNumbers, AcceptedGeometry};
-ghost use Rattle.geometry.specs.Places.{firstBit, endBit, discBit, blockBit, zoneOf, discBits, idFrom};
+ghost use Rattle.geometry.specs.Places.{firstBit, endBit, discBit, zoneOf, discBits, idFrom};
 ghost use Rattle.geometry.specs.Answers.{recordOf, startOf};
 ghost use Rattle.geometry.specs.Laws.{GeometryLaws};
 
@@ -20,7 +20,7 @@ pub struct Geometry {
     pub unit: usize, // B, the bytes of a map bit
     pub zones: usize, // nzones
     pub cluster: usize, // k, the map bits of a cluster
-    pub bits: usize, // Z, the allocation bits of a zone
+    pub bits: usize, // Z, the allocation bits of a zone; zone 0 has 480 fewer, where its record stands
     pub shortest: usize, // m, the shortest fragment
     pub ids: usize, // P, the ids per zone
     pub size: usize, // disc_size in bytes
@@ -33,11 +33,13 @@ pub struct Refusal {
     pub zone: u32,
 }
 
+// The geometry that a record gives, or a refusal.
 pub enum RecordRead {
     Accepted(Geometry),
     Refused(Refusal),
 }
 
+// A start zone, or a refusal.
 pub enum Start {
     Zone(usize),
     Refused(Refusal),
@@ -147,20 +149,22 @@ impl Geometry {
         DiscBit(z * self.bits + b.0 - 512)
     }
 
-    // The block bit of a disc bit in zone z; 0 for one before that zone's block.
-    pub fn block_bit(self, z: usize, d: DiscBit) -> BlockBit
-        requires { ⌜ AcceptedGeometry self × (z < self .zones) × (d .0 ≤ discBits self) ⌝ }
-        ensures { λ r. ⌜ r .0 ≡ blockBit self z (d .0) ⌝ }
-    {
-        BlockBit(minus(d.0 + 512, z * self.bits))
-    }
-
     // The zone in which a disc bit lies.
     pub fn zone_of(self, d: DiscBit) -> usize
         requires { ⌜ AcceptedGeometry self × (d .0 ≤ discBits self) ⌝ }
         ensures { λ r. ⌜ r ≡ zoneOf self (d .0) ⌝ }
     {
         (d.0 + 480) / self.bits
+    }
+}
+
+impl DiscBit {
+    // The block bit in the zone whose z*Z is `low`, by the same formula; 0 for a bit before that zone's block.
+    pub fn block_bit(self, low: usize) -> BlockBit
+        requires { ⌜ self .0 < 2 ^ 32 ⌝ }
+        ensures { λ r. ⌜ r .0 ≡ self .0 + 512 - low ⌝ }
+    {
+        BlockBit(minus(self.0 + 512, low))
     }
 }
 

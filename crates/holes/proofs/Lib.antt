@@ -1,4 +1,8 @@
+pub mod OwnersSome
+pub mod PairsCounted
 pub mod LinesApart
 pub mod ZonesTouching
+pub mod EditableMap
+pub mod Outcomes
 pub mod HoleFound
 pub mod HolesFree

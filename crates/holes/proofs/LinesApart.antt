@@ -1,23 +1,20 @@
 -- No two free lines in a row, one line at a time: what is left from line i on starts with line i's three numbers, and a line
 -- is free where its holder is 0. On a zone that keeps the rules no owner is 0, so its lines are apart exactly where no two
 -- free fragments touch.
-use mathlib.Core.Path.{_≡_, refl, sym, ap, _∙_}
+use mathlib.Core.Path.{_≡_, refl, ap, _∙_}
 use mathlib.Core.Bool.{Bool, true, false, not, _&&_}
 use mathlib.Core.List.{List, [], _∷_, _++_}
 use Prim.Native.Nat.{ℕ, _+_, _*_, _<_, _≤_}
-use native.Mathlib.Omega.{arith}
-use lib.Dec.{eqb, leb, ltb}
+use lib.Dec.{eqb}
 use lib.ListN.{length, getD, take}
-use lib.Seq.{take-at}
-use borrow.Author.Tests.{leb-true, ne-eqb}
 use Rattle.bits.proofs.Tests.{both}
 use Rattle.geometry.specs.declared.Geometry.{Geometry}
 use Rattle.model.specs.Chain.{Holder, free, owned, Entry, isFree, noneTouch}
-use Rattle.model.specs.Verdict.{every, holderFits, idFits}
+use Rattle.model.specs.Check.{every, holderFits, idFits}
 use Rattle.zone.specs.Lines.{lines, holderNumber}
-use Rattle.zone.proofs.ListWalk.{length-lines}
 use Rattle.zone.proofs.LineThrees.{linesLeft, next-line, no-line}
 use Rattle.holes.specs.Touching.{apartLines}
+use Rattle.holes.proofs.OwnersSome.{owner-some, lines-written}
 
 module _ (n : ℕ) (l : List ℕ) (sized : 3 * n ≤ length l) where
   -- whether line i is free, and the lines after it
@@ -38,9 +35,7 @@ module _ (n : ℕ) (l : List ℕ) (sized : 3 * n ≤ length l) where
 -- the lines of a zone
 number-free : (g : Geometry) (h : Holder) → holderFits g h ≡ true → eqb (holderNumber h) 0 ≡ isFree h
 number-free g free f = refl
-number-free g (owned id) f =
-    let l : 1 ≤ id = leb-true 1 id (both (leb 1 id) (ltb id (g .ids * g .zones)) f .0) in
-    ne-eqb id 0 (λ e. omega arith)
+number-free g (owned id) f = owner-some g id f
 
 lines-none-touch : (g : Geometry) (z : ℕ) (wasFree : Bool) (es : List Entry) → every (idFits g) es ≡ true → apartLines wasFree (lines g z es) ≡ noneTouch wasFree es
 lines-none-touch g z wasFree [] f = refl
@@ -50,6 +45,4 @@ lines-none-touch g z wasFree (e ∷ es) f =
 
 pub zone-apart : (g : Geometry) (z n : ℕ) (es : List Entry) (l r : List ℕ) → every (idFits g) es ≡ true → n ≡ length es → l ≡ lines g z es ++ r
     → apartLines false (take (3 * n) l) ≡ noneTouch false es
-zone-apart g z n es l r f e q =
-    let k : length (lines g z es) ≡ 3 * n = length-lines g z es ∙ ap (λ (x : ℕ). 3 * x) (sym e) in
-    ap (apartLines false) (ap (take (3 * n)) q ∙ take-at (lines g z es) r (3 * n) k) ∙ lines-none-touch g z false es f
+zone-apart g z n es l r f e q = ap (apartLines false) (lines-written g z n es l r e q) ∙ lines-none-touch g z false es f

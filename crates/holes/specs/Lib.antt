@@ -1,2 +1,3 @@
 pub mod Touching
+pub mod EditableMap
 pub mod Hole

@@ -2,13 +2,13 @@
 // first hole that is long enough (document 01, "Claim").
 use geometry::Geometry;
 ghost use mathlib.Core.Path.{_≡_};
-ghost use mathlib.Core.Bool.{true, false};
-ghost use Prim.Native.Nat.{ℕ, _+_, _*_, _<_, _≤_};
+ghost use mathlib.Core.Bool.{false};
+ghost use Prim.Native.Nat.{_*_, _≤_};
 ghost use lib.ListN.{length, take};
 ghost use Rattle.model.specs.Chain.{noneTouch};
 ghost use Rattle.zone.specs.Lines.{entriesIn};
 ghost use Rattle.map.specs.Accepted.{AcceptedMap};
-ghost use Rattle.listing.specs.HeldBy.{ReadZone, pairsIn, heldBy, inDiscBits, heldFrom};
+ghost use Rattle.listing.specs.HeldBy.{SoundZone, pairsIn, heldBy, inDiscBits, heldFrom};
 ghost use Rattle.calls.specs.Judge.{firstHole};
 ghost use Rattle.runs.specs.Steps.{touching};
 ghost use Rattle.runs.specs.Editable.{zonesOf};
@@ -46,7 +46,7 @@ pub fn first_touching(map: &[u8], g: Geometry) -> Touching
 
 // Whether no two free fragments of zone z touch.
 fn none_touch(block: &[u8], z: usize, g: Geometry) -> bool
-    requires { ⌜ ReadZone g z (now block) ⌝ }
+    requires { ⌜ SoundZone g z (now block) ⌝ }
     ensures { λ r. ⌜ r ≡ noneTouch false (entriesIn g z (now (block .entry))) ⌝ }
 {
     let mut lines = [0u32; 2048];
@@ -95,7 +95,7 @@ pub fn first_hole(map: &[u8], g: Geometry, need: usize) -> Hole
 }
 
 fn hole_in_zone(block: &[u8], z: usize, g: Geometry, need: usize) -> Hole
-    requires { ⌜ ReadZone g z (now block) ⌝ }
+    requires { ⌜ SoundZone g z (now block) ⌝ }
     ensures { λ r. ⌜ r ≡ holeOf (firstHole need (inDiscBits g z (heldBy 0 (entriesIn g z (now (block .entry)))))) ⌝ }
 {
     let mut lines = [0u32; 2048];

@@ -18,11 +18,11 @@ use Rattle.geometry.specs.Places.{idFrom, startZone}
 use Rattle.geometry.specs.Answers.{refusal, startOf}
 use Rattle.geometry.proofs.Starts.{start-in-range, named, not-named}
 use Rattle.model.specs.Chain.{Pair, numbersOf}
-use Rattle.model.specs.Verdict.{mapRead}
-use Rattle.model.specs.Verdict as read
+use Rattle.model.specs.Check.{mapRead}
+use Rattle.model.specs.Check as read
 use Rattle.model.specs.Pieces.{piecesOfZones, objectPairs}
 use Rattle.map.specs.Accepted.{AcceptedMap}
-use Rattle.map.specs.Checked.{answer, checked}
+use Rattle.map.specs.Checked.{checked}
 use Rattle.map.proofs.Answers.{read-refused}
 use Rattle.map.specs.declared.Checked.the-variants as check
 use Rattle.listing.specs.declared.Listed.the-variants as listed

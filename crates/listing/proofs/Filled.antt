@@ -14,7 +14,7 @@ use Rattle.model.specs.Fragments.{Fragment}
 use Rattle.model.specs.Chain.{Entry, onward, follow}
 use Rattle.model.specs.Blocks.{linkIn, allocBits}
 use Rattle.model.specs.Rules.{zoneBlock}
-use Rattle.model.specs.Verdict.{sound, zoneRead}
+use Rattle.model.specs.Check.{sound, zoneRead}
 use Rattle.model.specs.Pieces.{toDisc}
 use Rattle.model.proofs.FragmentsRead.{written-cut}
 use Rattle.model.proofs.Followed.{Long, total, Followed, was-free, was-owned, followed, none-left}
@@ -24,7 +24,7 @@ use Rattle.zone.specs.Lines.{entriesIn}
 use Rattle.zone.proofs.AllocBits.{first-high, ZoneBlock, bits-left, alloc-all}
 use Rattle.zone.proofs.EntriesRead.{is-read}
 use Rattle.map.specs.Accepted.{AcceptedMap}
-use Rattle.listing.specs.HeldBy.{ReadZone}
+use Rattle.listing.specs.HeldBy.{SoundZone}
 use Rattle.listing.proofs.HeldZones.{ReadInTurn, zones-in-turn, zone-reads}
 
 abbrev pub Fills : ℕ → ℕ → List Entry → Type 0
@@ -48,7 +48,7 @@ follow-fills at next end (f ∷ fs) es l t e = go es (followed at next f fs es e
     go es (was-free gs h k) ih = (refl, l .0, ih (onward at (f .id)) gs k)
     go es (was-owned gs h k) ih = (refl, l .0, ih next gs k)
 
-pub zone-fills : {g : Geometry} {z : ℕ} {b : List ℕ} → ReadZone g z b → Fills (firstBit z) (endBit g) (entriesIn g z b)
+pub zone-fills : {g : Geometry} {z : ℕ} {b : List ℕ} → SoundZone g z b → Fills (firstBit z) (endBit g) (entriesIn g z b)
 zone-fills {g} {z} {b} r =
     let p = zone-tests g z b (entriesIn g z b) (r .kept) in
     let k : ZoneBlock g b (endBit g) = record { numbers = r .numbers; sized = r .sized; ends = refl } in

@@ -11,7 +11,7 @@ use Rattle.bits.proofs.Tests.{both}
 use Rattle.geometry.specs.declared.Geometry.{Geometry}
 use Rattle.model.specs.Chain.{Pair, Holder, free, owned, Entry}
 use Rattle.model.specs.Rules.{zoneBlock}
-use Rattle.model.specs.Verdict.{sound, zoneRead, every, holderFits, idFits, endFits, firstOwned}
+use Rattle.model.specs.Check.{sound, zoneRead, every, holderFits, idFits, endFits, firstOwned}
 use Rattle.model.specs.Pieces.{toDisc, freeIf, freeOf, freeSpans}
 use Rattle.model.proofs.ZoneTests.{zone-tests}
 use Rattle.zone.specs.Lines.{entriesIn, holderNumber}

@@ -13,19 +13,19 @@ use Rattle.bits.proofs.Tests.{by-test}
 use Rattle.geometry.specs.declared.Geometry.{Geometry}
 use Rattle.model.specs.Chain.{Pair, Entry, numbersOf}
 use Rattle.model.specs.Rules.{zoneBlock}
-use Rattle.model.specs.Verdict.{sound, zoneRead}
+use Rattle.model.specs.Check.{sound, zoneRead}
 use Rattle.model.proofs.ByPlace.{block-length}
 use Rattle.zone.specs.Lines.{entriesIn, IsRead}
 use Rattle.zone.proofs.EntriesRead.{is-read}
 use Rattle.zone.proofs.FewFragments.{few}
 use Rattle.map.specs.Accepted.{AcceptedMap}
 use Rattle.map.proofs.Accepts.{ReadFrom, from-start, from-turn, from-end}
-use Rattle.listing.specs.HeldBy.{ReadZone, heldBy, heldIn, heldFrom}
+use Rattle.listing.specs.HeldBy.{SoundZone, heldBy, heldIn, heldFrom}
 use Rattle.listing.proofs.Stored.{StoredSoFar, stored-room, stored-turn}
 use Rattle.listing.proofs.Lines.{length-held}
 
 -- a zone that keeps the rules has few fragments
-pub few-entries : {g : Geometry} {z : ℕ} {b : List ℕ} → ReadZone g z b → 3 * length (entriesIn g z b) ≤ 2048
+pub few-entries : {g : Geometry} {z : ℕ} {b : List ℕ} → SoundZone g z b → 3 * length (entriesIn g z b) ≤ 2048
 few-entries {g} {z} {b} r = few g (r .numbers) b (r .sized) z (r .kept)
 
 -- what a holder has in zones z to n
@@ -118,7 +118,7 @@ module _ {m : List ℕ} {g : Geometry} (a : AcceptedMap m g) where
       let e : z ≡ 0 + z = omega arith in
       ap (λ (x : ℕ). entriesIn g x (zoneBlock g m x)) e ∙ entries-from 0 (a .zones) zones-in-turn z (omega arith)
 
-  pub zone-reads : (z : ℕ) → z < g .zones → ReadZone g z (zoneBlock g m z)
+  pub zone-reads : (z : ℕ) → z < g .zones → SoundZone g z (zoneBlock g m z)
   zone-reads z h = record {
     numbers = a .numbers;
     zone = h;

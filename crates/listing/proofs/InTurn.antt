@@ -13,9 +13,9 @@ use Rattle.bits.proofs.Tests.{by-test}
 use Rattle.geometry.specs.declared.Geometry.{Geometry}
 use Rattle.geometry.specs.Places.{discBits, zoneOf, startZone}
 use Rattle.model.specs.Chain.{Pair, Holder, free, owned, Entry}
-use Rattle.model.specs.Pieces.{Piece, keep, ownedIf, ownedOf, piecesOfZones, piecesOf, isOf, late, objectPairs, freeSpans}
+use Rattle.model.specs.Pieces.{Piece, keep, ownedIf, ownedOf, piecesOfZones, piecesOf, isOf, late, objectPairs, InObjectOrder, wrapped, both-late, both-early, freeSpans}
 use Rattle.map.specs.Accepted.{AcceptedMap}
-use Rattle.listing.specs.Laws.{At, first, later, InObjectOrder, wrapped, both-late, both-early}
+use Rattle.listing.specs.Laws.{At, first, later}
 use Rattle.listing.proofs.Filled.{Fills, discEntries, map-fills}
 use Rattle.listing.proofs.Ascend.{Apart, apart-from, apart-in-turn, map-apart}
 use Rattle.listing.proofs.FreeHeld.{free-spans}

@@ -5,10 +5,10 @@ use Prim.Native.Nat.{ℕ, _-_, _≤_}
 use Rattle.geometry.specs.Record.{geometryOf}
 use Rattle.geometry.specs.Places.{startZone}
 use Rattle.model.specs.Chain.{Pair, Entry}
-use Rattle.model.specs.Verdict.{entries, mapRead}
+use Rattle.model.specs.Check.{entries, mapRead}
 use Rattle.model.specs.Pieces.{piecesOfZones, objectPairs, freeSpans}
 use Rattle.map.specs.Accepted.{AcceptedMap}
-use Rattle.map.specs.Checked.{answer}
+use Rattle.map.specs.Checked.{checkAnswer}
 use Rattle.map.proofs.Accepts.{accepts}
 use Rattle.listing.specs.HeldBy.{heldFrom}
 use Rattle.listing.specs.Laws.{At, Covers, ListingLaws}
@@ -19,7 +19,7 @@ use Rattle.listing.proofs.InTurn.{spans-ascend, pieces-ascend}
 
 module _ (m : List ℕ) (ess : List (List Entry)) (e : mapRead m ≡ entries ess) where
   accepted : AcceptedMap m (geometryOf m)
-  accepted = accepts m (geometryOf m) (ap (answer (geometryOf m)) e)
+  accepted = accepts m (geometryOf m) (ap (checkAnswer (geometryOf m)) e)
 
   same-zones : accepted .zones ≡ ess
   same-zones = let k : entries (accepted .zones) ≡ entries ess = sym (accepted .read) ∙ e in cc

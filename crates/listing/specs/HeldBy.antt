@@ -14,7 +14,7 @@ use Rattle.model.specs.Pieces.{toDisc}
 use Rattle.zone.specs.Lines.{entriesIn, IsRead, holderNumber}
 
 -- a zone's block that keeps the rules
-pub record ReadZone (g : Geometry) (z : ℕ) (block : List ℕ) : Type 0 where
+pub record SoundZone (g : Geometry) (z : ℕ) (block : List ℕ) : Type 0 where
   pub numbers : AcceptedGeometry g
   pub zone : z < g .zones
   pub sized : length block ≡ g .sector

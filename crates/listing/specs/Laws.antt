@@ -4,10 +4,10 @@ use mathlib.Core.List.{List, [], _∷_, _++_}
 use Prim.Native.Nat.{ℕ, suc, _+_, _-_, _<_, _≤_}
 use Rattle.geometry.specs.declared.Geometry.{Geometry}
 use Rattle.geometry.specs.Record.{geometryOf, geometryFrom}
-use Rattle.geometry.specs.Places.{discBits, zoneOf, startZone, discBit}
+use Rattle.geometry.specs.Places.{discBits, startZone, discBit}
 use Rattle.model.specs.Chain.{Pair, Within, Entry}
-use Rattle.model.specs.Verdict.{entries, mapRead}
-use Rattle.model.specs.Pieces.{Piece, piecesOfZones, objectPairs, freeSpans}
+use Rattle.model.specs.Check.{entries, mapRead}
+use Rattle.model.specs.Pieces.{Piece, piecesOfZones, objectPairs, InObjectOrder, freeSpans}
 use Rattle.listing.specs.HeldBy.{heldFrom}
 
 -- a pair stands at a place of a list
@@ -29,12 +29,6 @@ module _ (g : Geometry) (ess : List (List Entry)) where
   pub record Covers : Type 0 where
     pub somewhere : (d : ℕ) → d < discBits g → (p : Place) × LiesIn d p
     pub once : (d : ℕ) (p q : Place) → LiesIn d p → LiesIn d q → p ≡ q
-
--- p comes before q where an object's search starts at zone `start`
-pub data InObjectOrder (g : Geometry) (start : ℕ) (p q : Pair) : Type 0 where
-  wrapped : start ≤ zoneOf g (p .start) → zoneOf g (q .start) < start → InObjectOrder g start p q
-  both-late : start ≤ zoneOf g (p .start) → start ≤ zoneOf g (q .start) → p .start + p .len ≤ q .start → InObjectOrder g start p q
-  both-early : zoneOf g (p .start) < start → zoneOf g (q .start) < start → p .start + p .len ≤ q .start → InObjectOrder g start p q
 
 pub record ListingLaws : Type 0 where
   pub cover : (m : List ℕ) (ess : List (List Entry)) → mapRead m ≡ entries ess → Covers (geometryOf m) ess

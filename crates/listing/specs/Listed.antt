@@ -11,8 +11,8 @@ use Rattle.geometry.specs.Record.{geometryOf}
 use Rattle.geometry.specs.Places.{idFrom}
 use Rattle.geometry.specs.Answers.{refusal}
 use Rattle.model.specs.Chain.{Pair, numbersOf}
-use Rattle.model.specs.Verdict.{MapRead, mapRead}
-use Rattle.model.specs.Verdict as read
+use Rattle.model.specs.Check.{MapRead, mapRead}
+use Rattle.model.specs.Check as read
 use Rattle.model.specs.Pieces.{piecesOfZones, objectPairs, freeSpans}
 use Rattle.listing.specs.declared.Listed.{Listed}
 use Rattle.listing.specs.declared.Listed.the-variants as listed
@@ -48,9 +48,9 @@ abbrev pub freeFound : List ℕ → ℕ → PairsFound
 freeFound m room = freeRead (geometryOf m) room (mapRead m)
 
 -- the answer: how many pairs
-abbrev pub answerOf : PairsFound → Listed
-answerOf (found qs) = listed.Pairs (length qs)
-answerOf (refused n z) = listed.Refused (refusal n z)
+abbrev pub listAnswer : PairsFound → Listed
+listAnswer (found qs) = listed.Pairs (length qs)
+listAnswer (refused n z) = listed.Refused (refusal n z)
 
 -- "Entries past the last pair are untouched"; a refusal writes nothing
 abbrev pub listAfter : List ℕ → PairsFound → List ℕ
@@ -59,7 +59,7 @@ listAfter old (refused n z) = old
 
 -- the answer, and every entry of the lent list
 pub record Lists (found : PairsFound) (old : List ℕ) (r : Listed) (new : List ℕ) : Type 0 where
-  pub answer : r ≡ answerOf found
+  pub answer : r ≡ listAnswer found
   pub list : new ≡ listAfter old found
 
 -- the paper's numbers: refusal (0: accepted), zone told, pairs

@@ -7,14 +7,14 @@ use map::Checked;
 ghost use mathlib.Core.Path.{_≡_};
 ghost use mathlib.Core.Bool.{cond};
 ghost use mathlib.Core.List.{[], _∷_};
-ghost use Prim.Native.Nat.{ℕ, _+_, _-_, _*_, _<_, _≤_};
+ghost use Prim.Native.Nat.{_+_, _-_, _*_, _<_, _≤_};
 ghost use lib.Dec.{eqb};
 ghost use lib.ListN.{length, take};
 ghost use lib.Seq.{sets};
 ghost use Rattle.model.specs.Chain.{numbersOf};
 ghost use Rattle.map.specs.Accepted.{AcceptedMap};
 ghost use Rattle.zone.specs.Lines.{entriesIn};
-ghost use Rattle.listing.specs.HeldBy.{ReadZone, pairsIn, heldBy, inDiscBits, heldFrom};
+ghost use Rattle.listing.specs.HeldBy.{SoundZone, pairsIn, heldBy, inDiscBits, heldFrom};
 ghost use Rattle.listing.specs.Listed.{objectFound, freeFound, Lists};
 ghost use Rattle.listing.specs.Laws.{ListingLaws};
 
@@ -131,7 +131,7 @@ pub fn write_zones(
 
 // How many fragments a holder has in zone z.
 pub fn count_zone(block: &[u8], z: usize, g: Geometry, holder: u32) -> usize
-    requires { ⌜ ReadZone g z (now block) ⌝ }
+    requires { ⌜ SoundZone g z (now block) ⌝ }
     ensures { λ r. ⌜ (r ≡ length (heldBy holder (entriesIn g z (now (block .entry))))) × (r ≤ 683) ⌝ }
 {
     let mut lines = [0u32; 2048];
@@ -148,7 +148,7 @@ fn write_zone(
     pairs: &mut [u32],
     at: usize,
 ) -> usize
-    requires { ⌜ ReadZone g z (now block) × (at + 2 * length (heldBy holder (entriesIn g z (now block))) ≤ length (now pairs)) ⌝ }
+    requires { ⌜ SoundZone g z (now block) × (at + 2 * length (heldBy holder (entriesIn g z (now block))) ≤ length (now pairs)) ⌝ }
     ensures list { λ r. ⌜ now (pairs .exit) ≡ sets (now (pairs .entry)) at (numbersOf (inDiscBits g z (heldBy holder (entriesIn g z (now (block .entry)))))) ⌝ }
     ensures next { λ r. ⌜ r ≡ at + 2 * length (heldBy holder (entriesIn g z (now (block .entry)))) ⌝ }
 {

@@ -15,8 +15,8 @@ use Rattle.geometry.specs.Ranges.{recordFits}
 use Rattle.geometry.proofs.Numbers.{test-gives-accepted}
 use Rattle.model.specs.Chain.{Entry}
 use Rattle.model.specs.Blocks.{blockAt}
-use Rattle.model.specs.Verdict.{ZoneRead, fault, sound, zoneRead, MapRead, refused, entries, joinZone, zonesRead, differing, crossSum, afterChecks, blocksRead, blocksOf, lengthFits, mapRead}
-use Rattle.map.specs.Checked.{answer, checked}
+use Rattle.model.specs.Check.{ZoneRead, fault, sound, zoneRead, MapRead, refused, entries, joinZone, zonesRead, differing, crossSum, afterChecks, blocksRead, blocksOf, lengthFits, mapRead}
+use Rattle.map.specs.Checked.{checkAnswer, checked}
 use Rattle.map.specs.Accepted.{AcceptedMap}
 use Rattle.map.specs.declared.Checked.the-variants.{Accepted}
 use Rattle.model.proofs.ByPlace.{restFrom, rest-cons, rest-none, rest-all}
@@ -24,7 +24,7 @@ use Rattle.model.proofs.ByPlace.{restFrom, rest-cons, rest-none, rest-all}
 refused-entries : {n i : ℕ} {ess : List (List Entry)} → refused n i ≡ entries ess → ⊥
 refused-entries e = let x : _≡_ {A = ℕ} 0 1 = cc in omega arith
 
-answer-parts : (g k : Geometry) (r : MapRead) → answer g r ≡ Accepted k → (ess : List (List Entry)) × (r ≡ entries ess) × (g ≡ k)
+answer-parts : (g k : Geometry) (r : MapRead) → checkAnswer g r ≡ Accepted k → (ess : List (List Entry)) × (r ≡ entries ess) × (g ≡ k)
 answer-parts g k (refused n i) e = let x : _≡_ {A = ℕ} 0 1 = cc in absurd (omega arith)
 answer-parts g k (entries ess) e = (ess, refl, cc)
 

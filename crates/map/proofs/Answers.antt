@@ -16,13 +16,13 @@ use Rattle.geometry.specs.Record.{discRecord, geometryOf}
 use Rattle.geometry.specs.Ranges.{recordFits}
 use Rattle.geometry.specs.Answers.{refusal, recordOf}
 use Rattle.geometry.proofs.RecordAnswers.{accepted-says, refused-says}
-use Rattle.model.specs.Verdict.{MapRead, refused, entries, zonesRead, differing, crossSum, afterChecks, blocksRead, blocksOf}
-use Rattle.map.specs.Checked.{answer, checked, firstDiffering}
+use Rattle.model.specs.Check.{MapRead, refused, entries, zonesRead, differing, crossSum, afterChecks, blocksRead, blocksOf}
+use Rattle.map.specs.Checked.{checkAnswer, checked, firstDiffering}
 use Rattle.map.specs.declared.Checked.the-variants.{Accepted, Refused}
 use Rattle.map.specs.declared.FirstDiffering.the-variants as first
 
 -- a map that the check refuses was read so
-pub read-refused : (g : Geometry) (q : MapRead) (r : Refusal) → answer g q ≡ Refused r → q ≡ refused (r .number) (r .zone)
+pub read-refused : (g : Geometry) (q : MapRead) (r : Refusal) → checkAnswer g q ≡ Refused r → q ≡ refused (r .number) (r .zone)
 read-refused g (refused n z) r e = let k : refusal n z ≡ r = cc in ap (λ (x : Refusal). refused (x .number) (x .zone)) k
 read-refused g (entries ess) r e = let x : _≡_ {A = ℕ} 0 1 = cc in absurd (omega arith)
 
@@ -45,18 +45,18 @@ module _ (m : List ℕ) where
           ne-eqb (length m) ((geometryOf m) .zones * (geometryOf m) .sector) (λ k. n (k ∙ ap (λ (x : Geometry). x .zones * x .sector) (sym (a .2)))),
         )
 
-    pub blocks-answer : length m ≡ g .zones * g .sector → answer g (blocksRead g (blocksOf g m)) ≡ checked m
+    pub blocks-answer : length m ≡ g .zones * g .sector → checkAnswer g (blocksRead g (blocksOf g m)) ≡ checked m
     blocks-answer n =
         let a = accepted-says m g e in
-        ap (λ (x : Geometry). answer x (blocksRead x (blocksOf x m))) (a .2)
+        ap (λ (x : Geometry). checkAnswer x (blocksRead x (blocksOf x m))) (a .2)
         ∙ rw (le-ltb (length m) 64 (a .0), a .1, eq-eqb (length m) ((geometryOf m) .zones * (geometryOf m) .sector) (n ∙ ap (λ (x : Geometry). x .zones * x .sector) (a .2)))
 
 -- the zone checks, and the cross checks after them
 module _ (g : Geometry) (bs : List (List ℕ)) where
-  pub check-differs : (z : ℕ) → firstDiffering (differing 0 bs) ≡ first.Zone z → Refused (refusal 3 z) ≡ answer g (blocksRead g bs)
+  pub check-differs : (z : ℕ) → firstDiffering (differing 0 bs) ≡ first.Zone z → Refused (refusal 3 z) ≡ checkAnswer g (blocksRead g bs)
   check-differs z e = go (differing 0 bs) e
     where
-      go : (o : Option ℕ) → firstDiffering o ≡ first.Zone z → Refused (refusal 3 z) ≡ answer g (afterChecks o (cond (eqb (crossSum bs) 255) (zonesRead g 0 bs) (refused 4 0)))
+      go : (o : Option ℕ) → firstDiffering o ≡ first.Zone z → Refused (refusal 3 z) ≡ checkAnswer g (afterChecks o (cond (eqb (crossSum bs) 255) (zonesRead g 0 bs) (refused 4 0)))
       go none e = let x : _≡_ {A = ℕ} 0 1 = cc in absurd (omega arith)
       go (some i) e = let x : z ≡ i = cc in ap (λ (y : ℕ). Refused (refusal 3 y)) x
 
@@ -65,11 +65,11 @@ module _ (g : Geometry) (bs : List (List ℕ)) where
   none-differs (some i) e = let x : _≡_ {A = ℕ} 0 1 = cc in absurd (omega arith)
 
   module _ (e : firstDiffering (differing 0 bs) ≡ first.None) (x : ℕ) (q : x ≡ crossSum bs) where
-    after-checks : answer g (blocksRead g bs) ≡ answer g (cond (eqb (crossSum bs) 255) (zonesRead g 0 bs) (refused 4 0))
-    after-checks = ap (λ (o : Option ℕ). answer g (afterChecks o (cond (eqb (crossSum bs) 255) (zonesRead g 0 bs) (refused 4 0)))) (none-differs (differing 0 bs) e)
+    after-checks : checkAnswer g (blocksRead g bs) ≡ checkAnswer g (cond (eqb (crossSum bs) 255) (zonesRead g 0 bs) (refused 4 0))
+    after-checks = ap (λ (o : Option ℕ). checkAnswer g (afterChecks o (cond (eqb (crossSum bs) 255) (zonesRead g 0 bs) (refused 4 0)))) (none-differs (differing 0 bs) e)
 
-    pub cross-differs : (x ≡ 255 → ⊥) → Refused (refusal 4 0) ≡ answer g (blocksRead g bs)
-    cross-differs n = sym (after-checks ∙ ap (λ (b : Bool). answer g (cond b (zonesRead g 0 bs) (refused 4 0))) (ne-eqb (crossSum bs) 255 (λ k. n (q ∙ k))))
+    pub cross-differs : (x ≡ 255 → ⊥) → Refused (refusal 4 0) ≡ checkAnswer g (blocksRead g bs)
+    cross-differs n = sym (after-checks ∙ ap (λ (b : Bool). checkAnswer g (cond b (zonesRead g 0 bs) (refused 4 0))) (ne-eqb (crossSum bs) 255 (λ k. n (q ∙ k))))
 
-    pub cross-holds : x ≡ 255 → answer g (zonesRead g 0 bs) ≡ answer g (blocksRead g bs)
-    cross-holds n = sym (after-checks ∙ ap (λ (b : Bool). answer g (cond b (zonesRead g 0 bs) (refused 4 0))) (eq-eqb (crossSum bs) 255 (sym q ∙ n)))
+    pub cross-holds : x ≡ 255 → checkAnswer g (zonesRead g 0 bs) ≡ checkAnswer g (blocksRead g bs)
+    cross-holds n = sym (after-checks ∙ ap (λ (b : Bool). checkAnswer g (cond b (zonesRead g 0 bs) (refused 4 0))) (eq-eqb (crossSum bs) 255 (sym q ∙ n)))

@@ -11,7 +11,7 @@ use lib.ListN.{getD}
 use Rattle.checks.specs.Words.{zoneCheck}
 use Rattle.checks.specs.Cross.{crossOf}
 use Rattle.model.specs.Blocks.{blockAt}
-use Rattle.model.specs.Verdict.{differing, crossSum}
+use Rattle.model.specs.Check.{differing, crossSum}
 use Rattle.model.proofs.ByPlace.{restFrom, rest-cons, rest-none}
 
 module _ (m : List ℕ) (zones size : ℕ) where

@@ -7,26 +7,26 @@ use native.Mathlib.Omega.{arith}
 use Rattle.geometry.specs.declared.Geometry.{Geometry}
 use Rattle.geometry.specs.Answers.{refusal}
 use Rattle.model.specs.Blocks.{blockAt}
-use Rattle.model.specs.Verdict.{ZoneRead, fault, sound, zoneRead, MapRead, refused, entries, joinZone, zonesRead, blocksOf}
+use Rattle.model.specs.Check.{ZoneRead, fault, sound, zoneRead, MapRead, refused, entries, joinZone, zonesRead, blocksOf}
 use Rattle.zone.specs.Walk.{verdictOf}
 use Rattle.zone.specs.declared.ZoneVerdict.the-variants.{Kept, Broken}
-use Rattle.map.specs.Checked.{answer}
+use Rattle.map.specs.Checked.{checkAnswer}
 use Rattle.map.specs.declared.Checked.{Checked}
 use Rattle.map.specs.declared.Checked.the-variants.{Accepted, Refused}
 use Rattle.model.proofs.ByPlace.{restFrom, rest-cons, rest-none, rest-all}
 
-join-kept : (g : Geometry) (z : ℕ) (r : ZoneRead) (q : MapRead) → Kept ≡ verdictOf r → answer g (joinZone z r q) ≡ answer g q
+join-kept : (g : Geometry) (z : ℕ) (r : ZoneRead) (q : MapRead) → Kept ≡ verdictOf r → checkAnswer g (joinZone z r q) ≡ checkAnswer g q
 join-kept g z (sound es) (refused n i) e = refl
 join-kept g z (sound es) (entries ess) e = refl
 join-kept g z (fault n) q e = let x : _≡_ {A = ℕ} 0 1 = cc in absurd (omega arith)
 
-join-broken : (g : Geometry) (z n : ℕ) (r : ZoneRead) (q : MapRead) → Broken n ≡ verdictOf r → answer g (joinZone z r q) ≡ Refused (refusal n z)
+join-broken : (g : Geometry) (z n : ℕ) (r : ZoneRead) (q : MapRead) → Broken n ≡ verdictOf r → checkAnswer g (joinZone z r q) ≡ Refused (refusal n z)
 join-broken g z n (sound es) q e = let x : _≡_ {A = ℕ} 0 1 = cc in absurd (omega arith)
 join-broken g z n (fault i) q e = let k : i ≡ n = cc in ap (λ (x : ℕ). Refused (refusal x z)) k
 
 module _ (m : List ℕ) (g : Geometry) where
   abbrev pub answerFrom : ℕ → Checked
-  answerFrom z = answer g (zonesRead g z (restFrom m (g .zones) (g .sector) z))
+  answerFrom z = checkAnswer g (zonesRead g z (restFrom m (g .zones) (g .sector) z))
 
   pub zones-turn : (z : ℕ) → z < g .zones → Kept ≡ verdictOf (zoneRead g z (blockAt (g .sector) z m)) → answerFrom z ≡ answerFrom (z + 1)
   zones-turn z h e =
@@ -42,5 +42,5 @@ module _ (m : List ℕ) (g : Geometry) where
   pub zones-end : (z : ℕ) → g .zones ≤ z → answerFrom z ≡ Accepted g
   zones-end z h = rw (rest-none m (g .zones) (g .sector) z h)
 
-  pub zones-all : answerFrom 0 ≡ answer g (zonesRead g 0 (blocksOf g m))
-  zones-all = ap (λ (x : List (List ℕ)). answer g (zonesRead g 0 x)) (rest-all m (g .zones) (g .sector))
+  pub zones-all : answerFrom 0 ≡ checkAnswer g (zonesRead g 0 (blocksOf g m))
+  zones-all = ap (λ (x : List (List ℕ)). checkAnswer g (zonesRead g 0 x)) (rest-all m (g .zones) (g .sector))

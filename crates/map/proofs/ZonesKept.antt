@@ -4,8 +4,7 @@ use mathlib.Core.List.{List}
 use Prim.Native.Nat.{ℕ, _*_, _<_, _≤_}
 use lib.ListN.{length}
 use Rattle.geometry.specs.declared.Geometry.{Geometry}
-use Rattle.model.specs.Chain.{Entry}
-use Rattle.model.specs.Verdict.{sound, zoneRead}
+use Rattle.model.specs.Check.{sound}
 use Rattle.model.specs.Rules.{zoneBlock, ZoneRules}
 use Rattle.model.specs.Table.{judgementOf}
 use Rattle.model.proofs.MapJudged.{accepted-keeps-rules}

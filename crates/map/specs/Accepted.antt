@@ -7,7 +7,7 @@ use Rattle.geometry.specs.declared.Geometry.{Geometry}
 use Rattle.geometry.specs.Record.{geometryOf}
 use Rattle.geometry.specs.Accepted.{AcceptedGeometry}
 use Rattle.model.specs.Chain.{Entry}
-use Rattle.model.specs.Verdict.{entries, mapRead, zonesRead, blocksOf}
+use Rattle.model.specs.Check.{entries, mapRead, zonesRead, blocksOf}
 
 pub record AcceptedMap (m : List ℕ) (g : Geometry) : Type 0 where
   pub geometry : g ≡ geometryOf m

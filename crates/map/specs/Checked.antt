@@ -5,18 +5,18 @@ use Prim.Native.Nat.{ℕ}
 use Rattle.geometry.specs.declared.Geometry.{Geometry}
 use Rattle.geometry.specs.Record.{geometryOf}
 use Rattle.geometry.specs.Answers.{refusal}
-use Rattle.model.specs.Verdict.{MapRead, refused, entries, mapRead}
+use Rattle.model.specs.Check.{MapRead, refused, entries, mapRead}
 use Rattle.map.specs.declared.Checked.{Checked}
 use Rattle.map.specs.declared.Checked.the-variants.{Accepted, Refused}
 use Rattle.map.specs.declared.FirstDiffering.{FirstDiffering}
 use Rattle.map.specs.declared.FirstDiffering.the-variants as first
 
-abbrev pub answer : Geometry → MapRead → Checked
-answer g (refused n z) = Refused (refusal n z)
-answer g (entries ess) = Accepted g
+abbrev pub checkAnswer : Geometry → MapRead → Checked
+checkAnswer g (refused n z) = Refused (refusal n z)
+checkAnswer g (entries ess) = Accepted g
 
 abbrev pub checked : List ℕ → Checked
-checked m = answer (geometryOf m) (mapRead m)
+checked m = checkAnswer (geometryOf m) (mapRead m)
 
 -- the paper's numbers: refusal (0: accepted) and zone told
 abbrev pub checkNumbers : Checked → ℕ × ℕ

@@ -5,15 +5,16 @@ use geometry::RecordRead;
 use geometry::Refusal;
 use zone::ZoneVerdict;
 ghost use mathlib.Core.Path.{_≡_};
-ghost use Prim.Native.Nat.{ℕ, _+_, _*_, _<_, _≤_};
+ghost use Prim.Native.Nat.{_+_, _*_, _<_, _≤_};
 ghost use lib.Dec.{eqb};
 ghost use lib.ListN.{length, getD};
 ghost use Rattle.checks.specs.Words.{zoneCheck};
 ghost use Rattle.checks.specs.Cross.{crossOf};
 ghost use Rattle.geometry.specs.Accepted.{AcceptedGeometry};
-ghost use Rattle.model.specs.Verdict.{zonesRead, differing, crossSum, blocksRead, blocksOf};
-ghost use Rattle.map.specs.Checked.{firstDiffering, answer, checked};
+ghost use Rattle.model.specs.Check.{zonesRead, differing, crossSum, blocksRead, blocksOf};
+ghost use Rattle.map.specs.Checked.{firstDiffering, checkAnswer, checked};
 
+// An accepted map's geometry, or a refusal.
 pub enum Checked {
     Accepted(Geometry),
     Refused(Refusal),
@@ -37,7 +38,7 @@ pub fn check(map: &[u8]) -> Checked
 // The zone checks of all zones, the cross checks, then zone by zone.
 fn check_blocks(map: &[u8], g: Geometry) -> Checked
     requires { ⌜ AcceptedGeometry g × (length (now map) ≡ g .zones * g .sector) ⌝ }
-    ensures { λ r. ⌜ r ≡ answer g (blocksRead g (blocksOf g (now (map .entry)))) ⌝ }
+    ensures { λ r. ⌜ r ≡ checkAnswer g (blocksRead g (blocksOf g (now (map .entry)))) ⌝ }
 {
     match zone_checks(map, g) {
         FirstDiffering::Zone(zone) => Checked::Refused(Refusal { number: 3, zone }),
@@ -110,7 +111,7 @@ fn cross_check(block: &[u8]) -> u8
 // Zone by zone: fragments, chain, owners. The lowest zone that breaks a rule is told.
 fn judge_zones(map: &[u8], g: Geometry) -> Checked
     requires { ⌜ AcceptedGeometry g × (length (now map) ≡ g .zones * g .sector) ⌝ }
-    ensures { λ r. ⌜ r ≡ answer g (zonesRead g 0 (blocksOf g (now (map .entry)))) ⌝ }
+    ensures { λ r. ⌜ r ≡ checkAnswer g (zonesRead g 0 (blocksOf g (now (map .entry)))) ⌝ }
 {
     let zones = g.zones;
     let size = g.sector;

@@ -5,7 +5,7 @@ use geometry::Geometry;
 use geometry::Refusal;
 use libc::STDOUT_FILENO;
 use map::Checked;
-ghost use Prim.Native.Nat.{ℕ, _*_, _≤_};
+ghost use Prim.Native.Nat.{_*_, _≤_};
 ghost use lib.ListN.{length};
 ghost use Rattle.map.specs.Accepted.{AcceptedMap};
 

@@ -7,7 +7,7 @@ use mathlib.Core.Option.{Option, none, some}
 use Prim.Native.Nat.{ℕ, zero, suc, _+_, _-_, _<_}
 use native.Mathlib.Omega.{arith}
 use lib.Dec.{eqb, ltb}
-use lib.ListN.{length, getD}
+use lib.ListN.{getD}
 use borrow.Author.Tests.{eqb-true, eqb-false, eq-eqb, ne-eqb, ltb-true, ltb-false}
 use Rattle.bits.proofs.Tests.{by-test}
 use Rattle.checks.specs.Words.{zoneCheck}
@@ -17,8 +17,8 @@ use Rattle.geometry.specs.Accepted.{AcceptedGeometry}
 use Rattle.geometry.proofs.Numbers.{accepted}
 use Rattle.model.specs.Chain.{Entry}
 use Rattle.model.specs.Rules.{ZoneRules, CheckRule, CrossRule, zoneBlock}
-use Rattle.model.specs.Verdict.{ZoneRead, sound, MapRead, entries, joinZone, zoneRead, zonesRead, differing, crossSum, afterChecks, blocksRead, blocksOf}
-use Rattle.model.specs.Verdict as read
+use Rattle.model.specs.Check.{ZoneRead, sound, MapRead, entries, joinZone, zoneRead, zonesRead, differing, crossSum, afterChecks, blocksRead, blocksOf}
+use Rattle.model.specs.Check as read
 use Rattle.model.specs.Table.{judgementOf, ZoneFault, Measured, CheckedBelow, RuledBelow, Judged, check-differs, cross-differs, zone-fault, kept}
 use Rattle.model.proofs.ByPlace.{restFrom, rest-all, rest-none, rest-cons}
 use Rattle.model.proofs.ZoneJudged.{ZoneSays, zone-says, no-fault, one-fault}

@@ -1,20 +1,19 @@
 -- The chain of a drawing is followed back to its pieces, and what is followed, with no two free fragments touching, is the
 -- chain of a drawing.
-use mathlib.Core.Path.{_≡_, refl, sym, ap, ap₂, _∙_, subst, subst⁻¹}
+use mathlib.Core.Path.{_≡_, refl, sym, ap, _∙_, subst, subst⁻¹}
 use mathlib.Core.Bool.{Bool, true, false, cond, not, _&&_, false≢true}
-use mathlib.Core.List.{List, [], _∷_, _++_}
-use mathlib.Core.Option.{Option, none, some}
-use Prim.Native.Nat.{ℕ, zero, suc, _+_, _-_, _*_, _^_, _<_, _≤_}
+use mathlib.Core.List.{List, [], _∷_}
+use mathlib.Core.Option.{some}
+use Prim.Native.Nat.{ℕ, suc, _+_, _-_, _<_, _≤_}
 use native.Mathlib.Nat.{zero-sub}
 use native.Mathlib.Omega.{arith}
-use lib.Dec.{eqb, ltb, leb}
+use lib.Dec.{eqb, ltb}
 use borrow.Author.Tests.{eqb-true, eqb-false, eq-eqb, ne-eqb, lt-ltb, le-ltb, ltb-true, ltb-false}
 use Rattle.bits.proofs.Tests.{by-test, both}
-use Rattle.model.specs.Fragments.{Fragment, fragmentBits, Formed}
-use Rattle.model.specs.Chain.{Pair, Holder, free, owned, Entry, entry, onward, before, follow, isFree, noneTouch}
+use Rattle.model.specs.Fragments.{Fragment}
+use Rattle.model.specs.Chain.{owned, Entry, onward, follow, noneTouch}
 use Rattle.model.specs.Pieces.{Piece, ownedOf}
-use Rattle.model.specs.Drawing.{firstFree, gap, drawnFragments, gapEntry, drawnEntries}
-use Rattle.model.proofs.Options.{none-some, some-some}
+use Rattle.model.specs.Drawing.{firstFree, drawnFragments, drawnEntries}
 use Rattle.model.proofs.Followed.{Long, total, Followed, was-free, was-owned, followed, none-left}
 
 -- the pieces lie apart between `at` and `end`

@@ -1,18 +1,13 @@
 -- The chain followed, one fragment at a time: the two ways on, and how many bits the fragments have.
-use mathlib.Core.Path.{_≡_, refl, sym, ap, ap₂, _∙_, subst, subst⁻¹}
-use mathlib.Core.Bool.{Bool, true, false, cond, not, _&&_, false≢true}
-use mathlib.Core.List.{List, [], _∷_, _++_}
+use mathlib.Core.Path.{_≡_, refl, sym, subst, subst⁻¹}
+use mathlib.Core.List.{List, [], _∷_}
 use mathlib.Core.Option.{Option, none, some}
-use Prim.Native.Nat.{ℕ, zero, suc, _+_, _-_, _*_, _^_, _<_, _≤_}
-use native.Mathlib.Nat.{zero-sub}
-use native.Mathlib.Omega.{arith}
-use lib.Dec.{eqb, ltb, leb}
-use borrow.Author.Tests.{eqb-true, eqb-false, eq-eqb, ne-eqb, lt-ltb, le-ltb, ltb-true, ltb-false}
-use Rattle.bits.proofs.Tests.{by-test, both}
-use Rattle.model.specs.Fragments.{Fragment, fragmentBits, Formed}
-use Rattle.model.specs.Chain.{Pair, Holder, free, owned, Entry, entry, onward, before, follow, isFree, noneTouch}
-use Rattle.model.specs.Pieces.{Piece, ownedOf}
-use Rattle.model.specs.Drawing.{firstFree, gap, drawnFragments, gapEntry, drawnEntries}
+use Prim.Native.Nat.{ℕ, _+_, _-_, _<_}
+use lib.Dec.{eqb}
+use borrow.Author.Tests.{eqb-true, eqb-false}
+use Rattle.bits.proofs.Tests.{by-test}
+use Rattle.model.specs.Fragments.{Fragment}
+use Rattle.model.specs.Chain.{free, owned, Entry, entry, onward, before, follow}
 use Rattle.model.proofs.Options.{none-some, some-some}
 
 abbrev pub Long : List Fragment → Type 0

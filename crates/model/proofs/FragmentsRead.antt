@@ -1,15 +1,13 @@
 -- Fragments drawn and read: a drawing is read back, and what was read is what is drawn.
-use mathlib.Core.Path.{_≡_, refl, sym, ap, ap₂, _∙_, subst, subst⁻¹}
-use mathlib.Core.Bool.{Bool, true, false, cond, not, _&&_, false≢true}
+use mathlib.Core.Path.{_≡_, refl, ap, _∙_, subst}
+use mathlib.Core.Bool.{Bool, true, false}
 use mathlib.Core.List.{List, [], _∷_, _++_}
 use mathlib.Core.Option.{Option, none, some}
-use Prim.Native.Nat.{ℕ, zero, suc, _+_, _-_, _*_, _/_, _%_, _^_, _<_, _≤_}
+use Prim.Native.Nat.{ℕ, zero, suc, _+_, _-_, _/_, _^_, _<_}
 use native.Mathlib.Nat.{suc-sub-suc}
 use native.Mathlib.Omega.{arith}
-use lib.Dec.{eqb}
-use lib.ListN.{length, replicate, length-append, length-replicate}
 use Rattle.bits.specs.Bits.{numberBits}
-use Rattle.bits.proofs.Digits.{bit-half, low-bit, high-bits, bit-le, length-number}
+use Rattle.bits.proofs.Digits.{bit-half, low-bit, high-bits, bit-le}
 use Rattle.model.specs.Fragments.{Fragment, closed, fragmentBits, Formed, Standing, edge, within, grow, longer, close, cut}
 use Rattle.model.proofs.Options.{none-some, some-some}
 

@@ -1,16 +1,16 @@
 -- A test of every entry of a zone, said of its fragments: those on the chain pass it as free, all others as owned by
 -- their id. One law for every test; the owner rules are three uses of it.
 use mathlib.Core.Path.{_≡_, refl, sym, subst, subst⁻¹}
-use mathlib.Core.Bool.{Bool, true, false, _&&_}
+use mathlib.Core.Bool.{Bool, true}
 use mathlib.Core.List.{List, [], _∷_}
-use mathlib.Core.Option.{Option, none, some}
+use mathlib.Core.Option.{some}
 use mathlib.Core.Logic.{_⊎_, inl, inr}
-use Prim.Native.Nat.{ℕ, suc, _+_, _<_, _≤_}
+use Prim.Native.Nat.{ℕ, _+_, _<_}
 use native.Mathlib.Omega.{arith}
 use Rattle.bits.proofs.Tests.{both, and-true}
 use Rattle.model.specs.Fragments.{Fragment}
 use Rattle.model.specs.Chain.{free, owned, Entry, entry, onward, StartsAt, here, later, OnChain, first, follow}
-use Rattle.model.specs.Verdict.{every}
+use Rattle.model.specs.Check.{every}
 use Rattle.model.proofs.Followed.{Long, Followed, was-free, was-owned, followed, none-left}
 use Rattle.model.proofs.Landing.{starts-from, none-starts, not-back, up-free, down-free, up-owned, down-owned}
 

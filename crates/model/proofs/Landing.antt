@@ -1,20 +1,17 @@
 -- The chain rule and the chain followed say the same: every link lands on a fragment's start exactly when the chain can be
 -- followed to its end, and the fragments passed as free are those on the chain. By passing the first fragment: what is on
 -- the chain of the whole is that fragment's start or on the chain of the rest.
-use mathlib.Core.Path.{_≡_, refl, sym, ap, _∙_, subst, subst⁻¹}
-use mathlib.Core.Bool.{Bool, true, false, cond, _&&_}
+use mathlib.Core.Path.{_≡_, refl, sym, subst, subst⁻¹}
 use mathlib.Core.List.{List, [], _∷_, cons≢nil}
-use mathlib.Core.Option.{Option, none, some}
+use mathlib.Core.Option.{some}
 use mathlib.Core.Logic.{_⊎_, inl, inr}
-use Prim.Native.Nat.{ℕ, zero, suc, _+_, _<_, _≤_}
+use Prim.Native.Nat.{ℕ, _+_, _<_, _≤_}
 use native.Mathlib.Omega.{arith}
 use lib.Dec.{eqb}
-use borrow.Author.Tests.{eqb-true, eqb-false, eq-eqb, ne-eqb}
-use Rattle.bits.proofs.Tests.{by-test, both, and-true}
+use borrow.Author.Tests.{eqb-true, eqb-false, ne-eqb}
+use Rattle.bits.proofs.Tests.{by-test}
 use Rattle.model.specs.Fragments.{Fragment}
-use Rattle.model.specs.Chain.{free, owned, Entry, entry, onward, StartsAt, here, later, OnChain, first, further, LinksLand, before, follow}
-use Rattle.model.specs.Verdict.{every}
-use Rattle.model.proofs.Options.{none-some, some-some}
+use Rattle.model.specs.Chain.{free, owned, Entry, entry, onward, StartsAt, here, later, OnChain, first, further, LinksLand, follow}
 use Rattle.model.proofs.Followed.{Long, Followed, was-free, was-owned, followed, none-left}
 
 -- fragments start in order

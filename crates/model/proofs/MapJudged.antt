@@ -12,7 +12,7 @@ use Rattle.geometry.specs.Record.{discRecord, geometryOf}
 use Rattle.geometry.specs.Ranges.{RecordRules, recordFits}
 use Rattle.geometry.proofs.Rules.{test-gives-rules, rules-give-test}
 use Rattle.model.specs.Rules.{MapRules}
-use Rattle.model.specs.Verdict.{MapRead, blocksRead, blocksOf, lengthFits, mapRead}
+use Rattle.model.specs.Check.{MapRead, blocksRead, blocksOf, lengthFits, mapRead}
 use Rattle.model.specs.Table.{Judgement, judgementOf, Measured, Judged, short, outside, other-length, check-differs, cross-differs, zone-fault, kept}
 use Rattle.model.specs.Table as table
 use Rattle.model.proofs.BlocksJudged.{measured-judged, zones-first, zones-all, at-check, at-cross, at-zones}

@@ -1,27 +1,27 @@
 -- The owner rule and its test say the same (refusal 7): the ids, the disc's end and object 2, each a test of every entry
 -- (`Holders`) or of the first.
-use mathlib.Core.Path.{_≡_, refl, sym, ap, _∙_, subst, subst⁻¹}
-use mathlib.Core.Bool.{Bool, true, false, not, _&&_, _||_, false≢true}
+use mathlib.Core.Path.{_≡_, refl, ap, subst}
+use mathlib.Core.Bool.{true, false, not, _&&_, _||_, false≢true}
 use mathlib.Core.List.{List, [], _∷_}
-use mathlib.Core.Option.{Option, none, some}
+use mathlib.Core.Option.{some}
 use mathlib.Core.Logic.{_⊎_, inl, inr}
-use Prim.Native.Nat.{ℕ, suc, _+_, _-_, _*_, _/_, _<_, _≤_}
+use Prim.Native.Nat.{ℕ, _+_, _-_, _*_, _/_, _<_, _≤_}
 use native.Mathlib.Omega.{arith}
 use lib.Dec.{eqb, ltb, leb}
-use borrow.Author.Tests.{eqb-true, eqb-false, eq-eqb, ne-eqb, leb-true, leb-false, le-leb, lt-ltb, ltb-true}
+use borrow.Author.Tests.{eqb-true, eq-eqb, leb-true, leb-false, le-leb, lt-ltb, ltb-true}
 use Rattle.bits.proofs.Tests.{by-test, both, and-true, either, or-left, or-right}
 use Rattle.geometry.specs.declared.Geometry.{Geometry}
 use Rattle.geometry.specs.Accepted.{AcceptedGeometry}
-use Rattle.geometry.specs.Places.{firstBit, discBit, idFrom}
+use Rattle.geometry.specs.Places.{firstBit, discBit}
 use Rattle.geometry.proofs.DiscBits.{first-low, from-zero-on}
 use Rattle.model.specs.Fragments.{Fragment}
-use Rattle.model.specs.Chain.{free, owned, Entry, entry, onward, StartsAt, here, later, OnChain, first, follow}
+use Rattle.model.specs.Chain.{Entry, onward, StartsAt, here, later, OnChain, first, follow}
 use Rattle.model.specs.Blocks.{linkIn}
 use Rattle.model.specs.Rules.{Free, OwnerRule}
-use Rattle.model.specs.Verdict.{every, isOwned, idFits, endFits, firstOwned, ownersFit}
+use Rattle.model.specs.Check.{every, idFits, endFits, firstOwned, ownersFit}
 use Rattle.model.proofs.Followed.{Long, Followed, was-free, was-owned, followed, none-left}
 use Rattle.model.proofs.Landing.{starts-from, none-starts}
-use Rattle.model.proofs.Holders.{Passes, EachPasses, every-passes, passes-every, first-off}
+use Rattle.model.proofs.Holders.{every-passes, passes-every, first-off}
 
 module _ (g : Geometry) (ok : AcceptedGeometry g) (z : ℕ) (b : List ℕ) (fs : List Fragment) (es : List Entry)
     (l : Long fs) (e : follow (firstBit z) (onward 8 (linkIn b)) fs ≡ some es) where

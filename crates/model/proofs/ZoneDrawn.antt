@@ -1,31 +1,29 @@
 -- A zone drawn and read (the laws that edits rest on): reading a drawing gives the pieces back, with the gaps free; and an
 -- accepted zone in which no two free fragments touch is the drawing of its owned pieces.
-use mathlib.Core.Path.{_≡_, refl, sym, ap, ap₂, _∙_, subst, subst⁻¹}
-use mathlib.Core.Bool.{Bool, true, false, cond, not, _&&_, false≢true}
-use mathlib.Core.List.{List, [], _∷_, _++_}
+use mathlib.Core.Path.{_≡_, refl, ap, _∙_, subst}
+use mathlib.Core.Bool.{Bool, true, false}
+use mathlib.Core.List.{List, [], _∷_}
 use mathlib.Core.Option.{Option, none, some}
-use mathlib.Core.Logic.{_⊎_, inl, inr}
-use Prim.Native.Nat.{ℕ, zero, suc, _+_, _-_, _*_, _^_, _<_, _≤_}
-use native.Mathlib.Nat.{zero-sub}
+use mathlib.Core.Logic.{inl, inr}
+use Prim.Native.Nat.{ℕ, suc, _+_, _-_, _^_, _<_, _≤_}
 use native.Mathlib.Omega.{arith}
-use lib.Dec.{eqb, ltb, leb}
-use borrow.Author.Tests.{eqb-true, eqb-false, eq-eqb, ne-eqb, lt-ltb, le-ltb, ltb-true, ltb-false}
+use lib.Dec.{ltb}
+use borrow.Author.Tests.{lt-ltb, le-ltb, ltb-true}
 use lib.Pow.{pow-pos}
-use lib.ListN.{length, replicate, length-append, length-replicate}
-use Rattle.bits.specs.Bits.{numberBits}
+use lib.ListN.{length, length-append, length-replicate}
 use Rattle.bits.proofs.Digits.{length-number}
-use Rattle.bits.proofs.Tests.{by-test, both}
+use Rattle.bits.proofs.Tests.{by-test}
 use Rattle.model.specs.Fragments.{Fragment, fragmentBits, Formed}
-use Rattle.model.specs.Chain.{Pair, Holder, free, owned, Entry, entry, onward, before, follow, isFree, noneTouch}
+use Rattle.model.specs.Chain.{Entry, onward, noneTouch}
 use Rattle.model.specs.Pieces.{Piece, ownedOf}
-use Rattle.model.specs.Drawing.{Hole, Drawable, draw, linkOf, followAll, readZone, firstFree, gap, drawnFragments, gapEntry, drawnEntries}
-use Rattle.model.proofs.Options.{none-some, some-some}
+use Rattle.model.specs.Drawing.{GapRoom, Drawable, draw, linkOf, followAll, readBits, firstFree, gap, drawnFragments, gapEntry, drawnEntries}
+use Rattle.model.proofs.Options.{none-some}
 use Rattle.model.specs.Fragments.{edge, cut}
 use Rattle.model.proofs.FragmentsRead.{cut-written, written-cut}
 use Rattle.model.proofs.Followed.{Long, total}
 use Rattle.model.proofs.ChainDrawn.{Lies, follow-drawn, drawn-follow, linked, free-or-ahead, link-back, follow-lies}
 
-pub hole-le : (n at end : ℕ) → Hole n at end → at ≤ end
+pub hole-le : (n at end : ℕ) → GapRoom n at end → at ≤ end
 hole-le n at end (inl e) = omega arith
 hole-le n at end (inr e) = omega arith
 
@@ -34,7 +32,7 @@ lies n at end [] d = hole-le n at end d
 lies n at end (p ∷ ps) d = (hole-le n at (p .at .start) (d .0), omega arith, lies n (p .at .start + p .at .len) end ps (d .3))
 
 -- the fragments drawn fit n bits of id
-fit-gap : (n at end next : ℕ) (fs : List Fragment) → Hole n at end → next - at < 2 ^ n → Formed n fs → Formed n (gap at end next fs)
+fit-gap : (n at end next : ℕ) (fs : List Fragment) → GapRoom n at end → next - at < 2 ^ n → Formed n fs → Formed n (gap at end next fs)
 fit-gap n at end next fs (inl e) h k = simp (le-ltb at end (omega arith)) k
 fit-gap n at end next fs (inr e) h k = simp (lt-ltb at end (omega arith)) (h, omega arith, k)
 
@@ -62,7 +60,7 @@ fit-drawn n at end (p ∷ ps) h d =
 
 -- a drawing is read back
 pub read-draw : (n at end : ℕ) (ps : List Piece) → 8 < at → end ≤ at + 2 ^ suc n → Drawable (suc n) at end ps
-    → readZone (suc n) at (linkOf at end ps) (draw (suc n) at end ps) ≡ some (drawnEntries at end ps)
+    → readBits (suc n) at (linkOf at end ps) (draw (suc n) at end ps) ≡ some (drawnEntries at end ps)
 read-draw n at end ps z h d =
     let l = lies (suc n) at end ps d in
     let same : suc n - 1 ≡ n = omega arith in
@@ -85,7 +83,7 @@ pub long-fit : (n : ℕ) (fs : List Fragment) → Formed n fs → Long fs
 long-fit n [] h = tt
 long-fit n (f ∷ fs) h = (omega arith, long-fit n fs (h .2))
 
-pub draw-read : (n at link : ℕ) (bits : List Bool) (es : List Entry) → 8 < at → readZone (suc n) at link bits ≡ some es → noneTouch false es ≡ true
+pub draw-read : (n at link : ℕ) (bits : List Bool) (es : List Entry) → 8 < at → readBits (suc n) at link bits ≡ some es → noneTouch false es ≡ true
     → (bits ≡ draw (suc n) at (at + length bits) (ownedOf es)) × (link ≡ linkOf at (at + length bits) (ownedOf es))
 draw-read n at link bits es z e c = go (cut n edge bits) refl (subst (λ (m : ℕ). followAll at link (cut m edge bits) ≡ some es) same e)
   where
@@ -100,7 +98,7 @@ draw-read n at link bits es z e c = go (cut n edge bits) refl (subst (λ (m : �
         let d = drawn-follow at (onward 8 link) (at + length bits) false fs es (omega arith) (long-fit (suc n) fs (w .1)) (omega arith) e c in
         (w .0 ∙ ap (fragmentBits (suc n)) (d .0), link-back 8 link _ (d .1))
 
-pub read-lies : (n at link : ℕ) (bits : List Bool) (es : List Entry) → readZone (suc n) at link bits ≡ some es → Lies at (at + length bits) (ownedOf es)
+pub read-lies : (n at link : ℕ) (bits : List Bool) (es : List Entry) → readBits (suc n) at link bits ≡ some es → Lies at (at + length bits) (ownedOf es)
 read-lies n at link bits es e = go (cut n edge bits) refl (subst (λ (m : ℕ). followAll at link (cut m edge bits) ≡ some es) same e)
   where
     same : suc n - 1 ≡ n
@@ -119,14 +117,14 @@ module _ (idlen : ℕ) (h : 0 < idlen) where
   whole-id = omega arith
 
   pub read-drawn : (at end : ℕ) (ps : List Piece) → 8 < at → end ≤ at + 2 ^ idlen → Drawable idlen at end ps
-      → readZone idlen at (linkOf at end ps) (draw idlen at end ps) ≡ some (drawnEntries at end ps)
+      → readBits idlen at (linkOf at end ps) (draw idlen at end ps) ≡ some (drawnEntries at end ps)
   read-drawn =
-      subst (λ (i : ℕ). (at end : ℕ) (ps : List Piece) → 8 < at → end ≤ at + 2 ^ i → Drawable i at end ps → readZone i at (linkOf at end ps) (draw i at end ps) ≡ some (drawnEntries at end ps))
+      subst (λ (i : ℕ). (at end : ℕ) (ps : List Piece) → 8 < at → end ≤ at + 2 ^ i → Drawable i at end ps → readBits i at (linkOf at end ps) (draw i at end ps) ≡ some (drawnEntries at end ps))
       whole-id (read-draw (idlen - 1))
 
-  pub drawn-read : (at link : ℕ) (bits : List Bool) (es : List Entry) → 8 < at → readZone idlen at link bits ≡ some es → noneTouch false es ≡ true
+  pub drawn-read : (at link : ℕ) (bits : List Bool) (es : List Entry) → 8 < at → readBits idlen at link bits ≡ some es → noneTouch false es ≡ true
       → (bits ≡ draw idlen at (at + length bits) (ownedOf es)) × (link ≡ linkOf at (at + length bits) (ownedOf es))
   drawn-read =
-      subst (λ (i : ℕ). (at link : ℕ) (bits : List Bool) (es : List Entry) → 8 < at → readZone i at link bits ≡ some es → noneTouch false es ≡ true
+      subst (λ (i : ℕ). (at link : ℕ) (bits : List Bool) (es : List Entry) → 8 < at → readBits i at link bits ≡ some es → noneTouch false es ≡ true
       → (bits ≡ draw i at (at + length bits) (ownedOf es)) × (link ≡ linkOf at (at + length bits) (ownedOf es)))
       whole-id (draw-read (idlen - 1))

@@ -1,14 +1,14 @@
 -- A zone judged: the walk accepts it exactly when its rules hold, and refuses it with n exactly when n is the first of 6, 5,
 -- 7 that applies.
-use mathlib.Core.Path.{_≡_, refl, sym, ap, ap₂, _∙_, subst, subst⁻¹}
-use mathlib.Core.Bool.{Bool, true, false, cond, _&&_, false≢true, true≢false}
+use mathlib.Core.Path.{_≡_, refl, sym, ap, _∙_, subst, subst⁻¹}
+use mathlib.Core.Bool.{Bool, true, false, cond, false≢true}
 use mathlib.Core.List.{List, [], _∷_}
 use mathlib.Core.Option.{Option, none, some}
-use Prim.Native.Nat.{ℕ, zero, suc, _+_, _-_, _*_, _%_, _<_, _≤_}
+use Prim.Native.Nat.{ℕ, suc, _-_, _%_, _<_, _≤_}
 use native.Mathlib.Omega.{arith}
 use lib.Dec.{eqb, leb}
-use borrow.Author.Tests.{eqb-true, eq-eqb, leb-true, leb-false, le-leb}
-use Rattle.bits.proofs.Tests.{by-test, both, and-true}
+use borrow.Author.Tests.{eqb-true, eq-eqb, leb-true, le-leb}
+use Rattle.bits.proofs.Tests.{both, and-true}
 use Rattle.geometry.specs.declared.Geometry.{Geometry}
 use Rattle.geometry.specs.Accepted.{AcceptedGeometry}
 use Rattle.geometry.specs.Places.{firstBit, endBit}
@@ -17,7 +17,7 @@ use Rattle.model.specs.Fragments.{Fragment, fragmentBits, Formed, InClus
 use Rattle.model.specs.Chain.{Entry, onward, follow}
 use Rattle.model.specs.Blocks.{freeLink, linkIn, allocBits}
 use Rattle.model.specs.Rules.{FragmentRule, ChainRule, OwnerRule, ZoneRules}
-use Rattle.model.specs.Verdict.{ZoneRead, fault, sound, inClusters, ownersFit, afterFollow, afterCut, zoneRead}
+use Rattle.model.specs.Check.{ZoneRead, fault, sound, inClusters, ownersFit, afterFollow, afterCut, zoneRead}
 use Rattle.model.specs.Table.{ZoneFault, six, five, seven}
 use Rattle.model.proofs.Options.{none-some, some-some}
 use Rattle.model.proofs.FragmentsRead.{cut-written, written-cut}

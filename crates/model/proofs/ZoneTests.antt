@@ -14,7 +14,7 @@ use Rattle.geometry.specs.Places.{firstBit, endBit}
 use Rattle.model.specs.Fragments.{Fragment, fragmentsIn}
 use Rattle.model.specs.Chain.{Entry, onward, follow}
 use Rattle.model.specs.Blocks.{freeLink, linkIn, allocBits}
-use Rattle.model.specs.Verdict.{fault, sound, inClusters, ownersFit, afterFollow, afterCut, zoneRead}
+use Rattle.model.specs.Check.{fault, sound, inClusters, ownersFit, afterFollow, afterCut, zoneRead}
 
 -- the tests, in their order
 pub record ZoneTests (g : Geometry) (z : ℕ) (b : List ℕ) (es : List Entry) : Type 0 where

@@ -10,7 +10,7 @@ use Prim.Native.Nat.{ℕ, _+_, _-_, _^_, _<_, _≤_}
 use lib.Dec.{ltb}
 use lib.ListN.{length}
 use Rattle.model.specs.Fragments.{Fragment, fragmentBits, fragmentsIn}
-use Rattle.model.specs.Chain.{Pair, free, owned, Entry, onward, follow, noneTouch}
+use Rattle.model.specs.Chain.{free, owned, Entry, onward, follow, noneTouch}
 use Rattle.model.specs.Pieces.{Piece, ownedOf}
 
 -- between bits `at` and `end`: where the first gap starts, 0 where there is none
@@ -50,24 +50,24 @@ abbrev pub followAll : ℕ → ℕ → Option (List Fragment) → Option (List E
 followAll at link none = none
 followAll at link (some fs) = follow at (onward 8 link) fs
 
-abbrev pub readZone : ℕ → ℕ → ℕ → List Bool → Option (List Entry)
-readZone idlen at link bits = followAll at link (fragmentsIn idlen bits)
+abbrev pub readBits : ℕ → ℕ → ℕ → List Bool → Option (List Entry)
+readBits idlen at link bits = followAll at link (fragmentsIn idlen bits)
 
 -- a hole has no bits, or room for a fragment
-abbrev pub Hole : ℕ → ℕ → ℕ → Type 0
-Hole idlen at end = (at ≡ end) ⊎ (at + idlen < end)
+abbrev pub GapRoom : ℕ → ℕ → ℕ → Type 0
+GapRoom idlen at end = (at ≡ end) ⊎ (at + idlen < end)
 
 -- pieces that can be drawn with ids of so many bits: ascending, apart, each long enough, and so is each gap
 abbrev pub Drawable : ℕ → ℕ → ℕ → List Piece → Type 0
-Drawable idlen at end [] = Hole idlen at end
+Drawable idlen at end [] = GapRoom idlen at end
 Drawable idlen at end (p ∷ ps) =
-    Hole idlen at (p .at .start) × (idlen < p .at .len) × (p .owner < 2 ^ idlen) × Drawable idlen (p .at .start + p .at .len) end ps
+    GapRoom idlen at (p .at .start) × (idlen < p .at .len) × (p .owner < 2 ^ idlen) × Drawable idlen (p .at .start + p .at .len) end ps
 
 pub record DrawingLaws : Type 0 where
   -- reading a drawing gives its entries back, and with them the pieces
   pub read-drawn : (idlen at end : ℕ) (ps : List Piece) → 0 < idlen → 8 < at → end ≤ at + 2 ^ idlen → Drawable idlen at end ps
-      → readZone idlen at (linkOf at end ps) (draw idlen at end ps) ≡ some (drawnEntries at end ps)
+      → readBits idlen at (linkOf at end ps) (draw idlen at end ps) ≡ some (drawnEntries at end ps)
   pub pieces-back : (at end : ℕ) (ps : List Piece) → ownedOf (drawnEntries at end ps) ≡ ps
   -- a zone that can be read and in which no two free fragments touch is the drawing of its pieces
-  pub drawn-read : (idlen at link : ℕ) (bits : List Bool) (es : List Entry) → 0 < idlen → 8 < at → readZone idlen at link bits ≡ some es → noneTouch false es ≡ true
+  pub drawn-read : (idlen at link : ℕ) (bits : List Bool) (es : List Entry) → 0 < idlen → 8 < at → readBits idlen at link bits ≡ some es → noneTouch false es ≡ true
       → (bits ≡ draw idlen at (at + length bits) (ownedOf es)) × (link ≡ linkOf at (at + length bits) (ownedOf es))

@@ -1,6 +1,6 @@
 -- The owned pieces of a map and its free spans, as the calls list them (document 01, "The calls", "Object order").
 -- Assumes nothing.
-use mathlib.Core.Bool.{Bool, true, false, cond, not}
+use mathlib.Core.Bool.{Bool, cond, not}
 use mathlib.Core.List.{List, [], _∷_, _++_, map}
 use Prim.Native.Nat.{ℕ, suc, _+_, _<_, _≤_}
 use lib.Dec.{eqb, leb}
@@ -55,6 +55,13 @@ rotate t l = keep t l ++ keep (λ x. not (t x)) l
 
 abbrev pub objectPairs : Geometry → ℕ → List Piece → List Pair
 objectPairs g id ps = map (λ p. p .at) (rotate (late g id) (piecesOf id ps))
+
+-- "take all its fragments in ascending order, then later zones, then from zone 0", said of two pairs: p comes before q where the
+-- start zone is `start`. Of two from that zone on, or two of the zones before it, p ends at or before q's start.
+pub data InObjectOrder (g : Geometry) (start : ℕ) (p q : Pair) : Type 0 where
+  wrapped : start ≤ zoneOf g (p .start) → zoneOf g (q .start) < start → InObjectOrder g start p q
+  both-late : start ≤ zoneOf g (p .start) → start ≤ zoneOf g (q .start) → p .start + p .len ≤ q .start → InObjectOrder g start p q
+  both-early : zoneOf g (p .start) < start → zoneOf g (q .start) < start → p .start + p .len ≤ q .start → InObjectOrder g start p q
 
 -- "Free spans ascend, one pair for each free fragment."
 abbrev pub freeIf : Holder → Pair → List Pair → List Pair

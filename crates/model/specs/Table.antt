@@ -10,8 +10,8 @@ use Rattle.geometry.specs.Record.{discRecord, geometryOf}
 use Rattle.geometry.specs.Ranges.{RecordRules}
 use Rattle.model.specs.Fragments.{Fragment}
 use Rattle.model.specs.Rules.{FragmentRule, ChainRule, OwnerRule, ZoneRules, CheckRule, CrossRule, zoneBlock, MapRules}
-use Rattle.model.specs.Verdict.{MapRead, blocksOf, mapRead}
-use Rattle.model.specs.Verdict as read
+use Rattle.model.specs.Check.{MapRead, blocksOf, mapRead}
+use Rattle.model.specs.Check as read
 
 -- accepted, or refused with a number and a zone
 pub data Judgement : Type 0 where

@@ -1,21 +1,21 @@
 -- Refusal 11: the fragments that the count finds are the object's pieces, in object order, so none is counted exactly where the
 -- object has no piece.
 use mathlib.Core.Path.{_≡_, refl, sym, ap, _∙_}
-use mathlib.Core.Bool.{true, false, not}
+use mathlib.Core.Bool.{true, false}
 use mathlib.Core.List.{List, [], _∷_}
 use Prim.Native.Nat.{ℕ, _+_, _-_, _≤_}
 use native.Mathlib.Omega.{arith}
-use lib.ListN.{length, length-append, length-map}
+use lib.ListN.{length, length-append}
 use Rattle.geometry.specs.declared.Geometry.{Geometry}
 use Rattle.geometry.specs.Places.{startZone}
-use Rattle.model.specs.Pieces.{Piece, keep, piecesOf, late, rotate, objectPairs, piecesOfZones}
+use Rattle.model.specs.Pieces.{Piece, piecesOf, objectPairs, piecesOfZones}
 use Rattle.map.specs.Accepted.{AcceptedMap}
 use Rattle.listing.specs.HeldBy.{heldFrom}
 use Rattle.listing.proofs.HeldZones.{held-all}
 use Rattle.listing.proofs.ObjectOrder.{in-object-order}
 use Rattle.calls.specs.Judge.{isEmpty}
-use Rattle.calls.proofs.Kept.{length-parts}
 use Rattle.holes.proofs.ZonesTouching.{zones-are}
+use Rattle.holes.proofs.PairsCounted.{pairs-count}
 use Rattle.runs.specs.Editable.{piecesOn}
 
 no-piece : (l : List Piece) → length l ≡ 0 → isEmpty l ≡ true
@@ -30,16 +30,13 @@ module _ {m : List ℕ} {g : Geometry} (a : AcceptedMap m g) (id : ℕ) (some : 
   pieces-counted : n ≡ length (piecesOf id (piecesOn g m))
   pieces-counted =
       let s = startZone g id in
-      let t = late g id in
       let ps = piecesOf id (piecesOfZones g 0 (a .zones)) in
       let lates = heldFrom g id m s (g .zones - s) in
       let early = heldFrom g id m 0 s in
       let held : length (heldFrom g id m 0 (g .zones)) ≡ length early + length lates = ap length (held-all g id m s (g .zones) inside) ∙ length-append early lates in
       let order : length (objectPairs g id (piecesOfZones g 0 (a .zones))) ≡ length lates + length early = ap length (in-object-order a id some inside) ∙ length-append lates early in
-      let turned : length (objectPairs g id (piecesOfZones g 0 (a .zones))) ≡ length ps =
-      length-map (rotate t ps) (λ p. p .at) ∙ length-append (keep t ps) (keep (λ x. not (t x)) ps) ∙ length-parts t ps in
       let e : length ps ≡ length (piecesOf id (piecesOn g m)) = ap (λ x. length (piecesOf id (piecesOfZones g 0 x))) (sym (zones-are a)) in
-      omega (arith, held, order, turned, e)
+      omega (arith, held, order, pairs-count g id (piecesOfZones g 0 (a .zones)), e)
 
   pub absent : n ≡ 0 → isEmpty (piecesOf id (piecesOn g m)) ≡ true
   absent h = no-piece (piecesOf id (piecesOn g m)) (omega (arith, pieces-counted))

@@ -1,28 +1,21 @@
 -- The answers of a place, case by case: the check's refusal, 8, 9, 11, 12, 13, each with the map as it was, and done with the map
 -- after the step.
-use mathlib.Core.Path.{_≡_, sym, ap, _∙_, subst, subst⁻¹}
+use mathlib.Core.Path.{_≡_, sym, ap, _∙_, subst⁻¹}
 use mathlib.Core.Bool.{Bool, true, false, _&&_}
 use mathlib.Core.List.{List}
-use mathlib.Core.Option.{none, some}
 use Prim.Native.Nat.{ℕ, _*_, _%_, _<_, _≤_}
 use native.Mathlib.Omega.{arith}
 use lib.Dec.{eqb, ltb, leb}
 use lib.ListN.{length}
 use borrow.Author.Tests.{le-leb, lt-leb, leb-true, ltb-true, eqb-true}
-use Rattle.bits.specs.Bits.{Bytes}
 use Rattle.bits.proofs.Tests.{both, and-true}
 use Rattle.geometry.specs.declared.Geometry.{Geometry}
 use Rattle.geometry.specs.declared.Refusal.{Refusal}
 use Rattle.geometry.specs.declared.Start.the-variants as start
-use Rattle.geometry.specs.Record.{geometryOf}
 use Rattle.geometry.specs.Places.{startZone, idFrom}
 use Rattle.geometry.specs.Answers.{refusal, startOf}
 use Rattle.geometry.proofs.Starts.{start-in-range, named, not-named}
-use Rattle.model.specs.Verdict.{mapRead}
-use Rattle.model.specs.Verdict as read
-use Rattle.model.specs.Pieces.{piecesOfZones}
-use Rattle.map.specs.Checked.{answer, checked}
-use Rattle.map.proofs.Answers.{read-refused}
+use Rattle.map.specs.Checked.{checked}
 use Rattle.map.specs.Accepted.{AcceptedMap}
 use Rattle.map.specs.declared.Checked.the-variants as check
 use Rattle.listing.specs.HeldBy.{heldFrom}
@@ -30,33 +23,30 @@ use Rattle.calls.specs.Edits.{gives, give}
 use Rattle.calls.specs.Holes.{allApart}
 use Rattle.calls.specs.Judge.{editable, listFits, pairsFit, judge, pairsFrom}
 use Rattle.calls.specs.Judge as judged
-use Rattle.runs.specs.Steps.{touching, discOf, refused, byRead, outcome, bytesAfter, step}
-use Rattle.runs.proofs.RunsOnBytes.{step-refused, step-accepted}
+use Rattle.runs.specs.Steps.{touching, refused, outcome, bytesAfter, step}
 use Rattle.runs.specs.Editable.{zonesOf, piecesOn}
 use Rattle.holes.specs.Touching.{touchingOf}
+use Rattle.holes.specs.EditableMap.{EditableMap}
 use Rattle.holes.specs.declared.Touching.the-variants as told
-use Rattle.holes.proofs.ZonesTouching.{zones-are, none-told, zone-told}
+use Rattle.holes.proofs.Outcomes.{check-refused, id-refused, touching-refused, judged-refused, judged-done}
 use Rattle.place.specs.declared.Placed.the-variants as placed
-use Rattle.place.specs.Placed.{answerOf, Places}
+use Rattle.place.specs.Placed.{placeAnswer, Places}
 use Rattle.place.specs.Parts.{fitsFrom}
-use Rattle.place.specs.Asked.{EditableMap, PlaceAsks}
+use Rattle.place.specs.Asked.{PlaceAsks}
 use Rattle.place.proofs.ListJudged.{fitsAll, list-fits-is}
-use Rattle.place.proofs.ApartZones.{zones-apart}
 use Rattle.place.proofs.Absent.{absent, present}
 
 refusal-places : (m : List ℕ) (id : ℕ) (list : List ℕ) (n z : ℕ) → outcome m (judged.place id list) ≡ refused n z → Places m id list (placed.Refused (refusal n z)) m
-refusal-places m id list n z e = record { answer = sym (ap answerOf e); bytes = sym (ap (bytesAfter m) e) }
+refusal-places m id list n z e = record { answer = sym (ap placeAnswer e); bytes = sym (ap (bytesAfter m) e) }
 
 pub check-refuses : (m : List ℕ) (id : ℕ) (list : List ℕ) (r : Refusal) → checked m ≡ check.Refused r → Places m id list (placed.Refused r) m
 check-refuses m id list r e =
-    refusal-places m id list (r .number) (r .zone) (ap (byRead m (judged.place id list)) (read-refused (geometryOf m) (mapRead m) r e))
+    refusal-places m id list (r .number) (r .zone) (check-refused m (judged.place id list) r e)
 
 module _ {m : List ℕ} {g : Geometry} (a : AcceptedMap m g) (id : ℕ) (list : List ℕ) where
-  -- 8: "id argument outside .. 3 .. to P*nzones-1"
+  -- 8
   eight : editable g id ≡ false → Places m id list (placed.Refused (refusal 8 0)) m
-  eight e =
-      let f : editable (geometryOf m) id ≡ false = subst (λ (x : Geometry). editable x id ≡ false) (a .geometry) e in
-      refusal-places m id list 8 0 (ap (byRead m (judged.place id list)) (a .read) ∙ rw f)
+  eight e = refusal-places m id list 8 0 (id-refused a (judged.place id list) e)
 
   pub id-below : id < 3 → Places m id list (placed.Refused (refusal 8 0)) m
   id-below h = eight (rw (lt-leb 3 id h))
@@ -81,24 +71,14 @@ module _ {m : List ℕ} {g : Geometry} (a : AcceptedMap m g) (id : ℕ) (list : 
       start-inside : startZone g id ≤ g .zones
       start-inside = omega (arith, start-in-range g id (omega arith) (ltb-true id (g .ids * g .zones) below))
 
-      -- 9: "two free fragments of a zone touch"
+      -- 9
       pub touching-refuses : (z : ℕ) → touchingOf (touching 0 (zonesOf m)) ≡ told.Zone z → Places m id list (placed.Refused (refusal 9 z)) m
-      touching-refuses z t =
-          let f : editable (geometryOf m) id ≡ true = subst (λ (x : Geometry). editable x id ≡ true) (a .geometry) id-named in
-          let k : touching 0 (a .zones) ≡ some z = ap (touching 0) (sym (zones-are a)) ∙ zone-told (touching 0 (zonesOf m)) z t in
-          refusal-places m id list 9 z (ap (byRead m (judged.place id list)) (a .read) ∙ rw (f, k))
+      touching-refuses z t = refusal-places m id list 9 z (touching-refused a (judged.place id list) id-named z t)
 
       -- neither refuses: the map is one that edits work on
-      module _ (b : Bytes m) (t : touchingOf (touching 0 (zonesOf m)) ≡ told.None) where
-        map-editable : EditableMap m g
-        map-editable = record { accepted = a; apart = none-told (touching 0 (zonesOf m)) t; bytes = b }
-
+      module _ (w : EditableMap m g) where
         refuses : (n : ℕ) → judge g (piecesOn g m) (judged.place id list) ≡ judged.refused n → Places m id list (placed.Refused (refusal n 0)) m
-        refuses n v =
-            let k : judge (geometryOf m) ((discOf m (a .zones)) .pieces) (judged.place id list) ≡ judged.refused n =
-            sym (λ i. judge (a .geometry i) (piecesOfZones (a .geometry i) 0 (zones-are a i)) (judged.place id list)) ∙ v in
-            let apart : touching 0 (a .zones) ≡ none = ap (touching 0) (sym (zones-are a)) ∙ none-told (touching 0 (zonesOf m)) t in
-            refusal-places m id list n 0 (step-refused m (a .zones) b (a .read) apart (judged.place id list) n k .0)
+        refuses n v = refusal-places m id list n 0 (judged-refused w (judged.place id list) n v)
 
         module _ {n : ℕ} (count : n ≡ length (heldFrom g id m 0 (g .zones))) where
           -- 11: "id already on the map"
@@ -114,13 +94,10 @@ module _ {m : List ℕ} {g : Geometry} (a : AcceptedMap m g) (id : ℕ) (list : 
             list-refuses t = refuses 12 (rw (id-named, absent a id (omega arith) start-inside count h, sym fits-is ∙ t))
 
             pub place-asks : fits ≡ true → PlaceAsks m g id s list
-            place-asks t = record { editable = map-editable; named = id-named; absent = absent a id (omega arith) start-inside count h; start-is = start-is; fits = sym fits-is ∙ t }
+            place-asks t = record { editable = w; named = id-named; absent = absent a id (omega arith) start-inside count h; start-is = start-is; fits = sym fits-is ∙ t }
 
 -- 13, or done
 module _ {m : List ℕ} {g : Geometry} {id s : ℕ} {list : List ℕ} (q : PlaceAsks m g id s list) where
-  abbrev a : AcceptedMap m g
-  a = q .editable .accepted
-
   pub list-even : length list % 2 ≡ 0
   list-even = eqb-true (length list % 2) 0 (both (ltb 0 (length list)) (eqb (length list % 2) 0) (both (ltb 0 (length list) && eqb (length list % 2) 0) (pairsFit g id 0 (pairsFrom list)) (q .fits) .0) .1)
 
@@ -130,24 +107,14 @@ module _ {m : List ℕ} {g : Geometry} {id s : ℕ} {list : List ℕ} (q : Place
   pub start-small : s ≤ 65536
   start-small =
       let k = both (leb 3 id) (ltb id (g .ids * g .zones)) (q .named) in
-      omega (arith, q .start-is, start-in-range g id (omega (arith, leb-true 3 id (k .0))) (ltb-true id (g .ids * g .zones) (k .1)), a .numbers .zones-high)
-
-  verdict-at : (g2 : Geometry) → g ≡ g2 → judge g (piecesOn g m) (judged.place id list) ≡ judge g2 (piecesOfZones g2 0 ((q .editable .accepted) .zones)) (judged.place id list)
-  verdict-at g2 e = λ i. judge (e i) (piecesOfZones (e i) 0 (zones-are a i)) (judged.place id list)
+      omega (arith, q .start-is, start-in-range g id (omega (arith, leb-true 3 id (k .0))) (ltb-true id (g .ids * g .zones) (k .1)), q .editable .accepted .numbers .zones-high)
 
   module _ {fits : Bool} (ef : fits ≡ allApart g 0 (g .zones) (give id (pairsFrom list) (piecesOn g m))) where
     pub no-room : fits ≡ false → Places m id list (placed.Refused (refusal 13 0)) m
-    no-room t =
-        let v : judge g (piecesOn g m) (judged.place id list) ≡ judged.refused 13 = rw (q .named, q .absent, q .fits, sym ef ∙ t) in
-        refusal-places m id list 13 0
-        (step-refused m (a .zones) (q .editable .bytes) (a .read) (zones-apart (q .editable)) (judged.place id list) 13 (sym (verdict-at (geometryOf m) (a .geometry)) ∙ v) .0)
+    no-room t = refusal-places m id list 13 0 (judged-refused (q .editable) (judged.place id list) 13 (rw (q .named, q .absent, q .fits, sym ef ∙ t)))
 
     pub room : fits ≡ true → judge g (piecesOn g m) (judged.place id list) ≡ judged.accepted (gives id (pairsFrom list))
     room t = rw (q .named, q .absent, q .fits, sym ef ∙ t)
 
     pub done-places : fits ≡ true → (after : List ℕ) → after ≡ step m (judged.place id list) → Places m id list placed.Done after
-    done-places t after e =
-        record {
-          answer = sym (ap answerOf (step-accepted m (a .zones) (q .editable .bytes) (a .read) (zones-apart (q .editable)) (judged.place id list) (gives id (pairsFrom list)) (sym (verdict-at (geometryOf m) (a .geometry)) ∙ room t) .0));
-          bytes = e;
-        }
+    done-places t after e = record { answer = sym (ap placeAnswer (judged-done (q .editable) (judged.place id list) (gives id (pairsFrom list)) (room t))); bytes = e }

@@ -42,12 +42,12 @@ module _ (g : Geometry) (start : ℕ) (list : List ℕ) (even : length list % 2 
         && fitsFrom g start (orderPlace g start (getD list i 0) + getD list (i + 1) 0) (pairsFrom (drop (i + 2) list))
     turn = ap (fitsFrom g start from) (next-pairs list i (omega arith))
 
-    pub bad-pair : pairFits g (pair (getD list i 0) (getD list (i + 1) 0)) ≡ false → fitsFrom g start from (pairsFrom (drop i list)) ≡ false
-    bad-pair t = rw t at turn
+    pub pair-fails : pairFits g (pair (getD list i 0) (getD list (i + 1) 0)) ≡ false → fitsFrom g start from (pairsFrom (drop i list)) ≡ false
+    pair-fails t = rw t at turn
 
     module _ (t : pairFits g (pair (getD list i 0) (getD list (i + 1) 0)) ≡ true) {at : ℕ} (e : at ≡ orderPlace g start (getD list i 0)) where
-      pub bad-order : at < from → fitsFrom g start from (pairsFrom (drop i list)) ≡ false
-      bad-order k = let l : leb from (orderPlace g start (getD list i 0)) ≡ false = lt-leb from (orderPlace g start (getD list i 0)) (omega arith) in rw (t, l) at turn
+      pub order-fails : at < from → fitsFrom g start from (pairsFrom (drop i list)) ≡ false
+      order-fails k = let l : leb from (orderPlace g start (getD list i 0)) ≡ false = lt-leb from (orderPlace g start (getD list i 0)) (omega arith) in rw (t, l) at turn
 
       pub fits-goes-on : from ≤ at → fitsFrom g start from (pairsFrom (drop i list)) ≡ fitsFrom g start (at + getD list (i + 1) 0) (pairsFrom (drop (i + 2) list))
       fits-goes-on k =

@@ -5,10 +5,8 @@ use mathlib.Core.Bool.{true}
 use mathlib.Core.List.{List, [], _∷_, _++_, map}
 use Prim.Native.Nat.{ℕ, _+_, _*_, _<_, _≤_}
 use native.Mathlib.Omega.{arith}
-use lib.Dec.{leb, ltb}
-use lib.ListN.{length, take}
-use lib.Seq.{take-at}
-use borrow.Author.Tests.{leb-true, ne-eqb, lt-ltb, le-ltb}
+use lib.ListN.{length}
+use borrow.Author.Tests.{lt-ltb, le-ltb}
 use Rattle.bits.proofs.Tests.{both}
 use Rattle.geometry.specs.declared.Geometry.{Geometry}
 use Rattle.geometry.specs.Accepted.{AcceptedGeometry}
@@ -16,9 +14,8 @@ use Rattle.geometry.specs.Places.{zoneFrom, zoneEnd}
 use Rattle.geometry.proofs.DiscBits.{zone-bits-small}
 use Rattle.model.specs.Chain.{Pair, Holder, free, owned, Entry}
 use Rattle.model.specs.Pieces.{Piece, ownedIf, ownedOf, pieceToDisc}
-use Rattle.model.specs.Verdict.{every, holderFits, idFits}
+use Rattle.model.specs.Check.{every, holderFits, idFits}
 use Rattle.zone.specs.Lines.{lines, holderNumber, entriesIn}
-use Rattle.zone.proofs.ListWalk.{length-lines}
 use Rattle.listing.proofs.FreeHeld.{ids-fit}
 use Rattle.calls.specs.Order.{Ascending}
 use Rattle.calls.specs.Edits.{put, own}
@@ -26,6 +23,7 @@ use Rattle.calls.specs.Holes.{apart}
 use Rattle.calls.specs.Judge.{pairsFrom}
 use Rattle.calls.proofs.Invariant.{pair-tested, some-bits}
 use Rattle.calls.proofs.PutIn.{asc-weaken}
+use Rattle.holes.proofs.OwnersSome.{owner-some, lines-written}
 use Rattle.place.specs.Parts.{Rising}
 use Rattle.place.specs.Merged.{ownedLines, linesLeft, piecesApart, Merging, ownedInZone, zoneFits}
 use Rattle.place.specs.Asked.{ZoneAsks}
@@ -45,9 +43,7 @@ owned-lines g z (e ∷ es) f = go (e .holder) (both (idFits g e) (every (idFits 
     go : (h : Holder) → holderFits g h ≡ true → ownedLines (lines g z es) ≡ map (pieceToDisc g z) (ownedOf es)
         → ownedLines (holderNumber h ∷ ((pieceToDisc g z (own 0 (e .at))) .at .start) ∷ e .at .len ∷ lines g z es) ≡ map (pieceToDisc g z) (ownedIf h (e .at) (ownedOf es))
     go free k ih = ih
-    go (owned id) k ih =
-        let l : 1 ≤ id = leb-true 1 id (both (leb 1 id) (ltb id (g .ids * g .zones)) k .0) in
-        simp (ne-eqb id 0 (λ e. omega arith)) (ap (λ (r : List Piece). pieceToDisc g z (own id (e .at)) ∷ r) ih)
+    go (owned id) k ih = simp (owner-some g id k) (ap (λ (r : List Piece). pieceToDisc g z (own id (e .at)) ∷ r) ih)
 
 module _ {g : Geometry} {z : ℕ} {block list : List ℕ} (q : ZoneAsks g z block list) where
   pub nothing-listed : length list ≡ 0 → (id : ℕ) → true ≡ zoneFits g z id block list
@@ -57,8 +53,7 @@ module _ {g : Geometry} {z : ℕ} {block list : List ℕ} (q : ZoneAsks g z bloc
     zone-lines : linesLeft l n 0 ≡ ownedInZone g z block
     zone-lines =
         let es = entriesIn g z block in
-        let k : length (lines g z es) ≡ 3 * n = length-lines g z es ∙ ap (λ (x : ℕ). 3 * x) (sym en) in
-        ap ownedLines (ap (take (3 * n)) el ∙ take-at (lines g z es) r (3 * n) k) ∙ owned-lines g z es (ids-fit g z block es (q .read .kept))
+        ap ownedLines (lines-written g z n es l r en el) ∙ owned-lines g z es (ids-fit g z block es (q .read .kept))
 
     pub merge-starts : 3 * n ≤ length l → {low : ℕ} → low ≡ zoneFrom g z → Merging l n list 0 0 low × (g .shortest < 4294967296)
     merge-starts h {low} e =

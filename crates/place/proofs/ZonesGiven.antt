@@ -1,32 +1,31 @@
 -- The zones written one by one: each gets its part of the list, as the place as a whole has it, with the change of its cross
 -- check by its place among the touched zones. So the map whose zones are all written is the map after the place.
 use mathlib.Core.Path.{_≡_, refl, sym, ap, ap₂, _∙_, subst⁻¹}
-use mathlib.Core.Bool.{true, cond}
+use mathlib.Core.Bool.{cond}
 use mathlib.Core.List.{List, [], _∷_, map}
 use Prim.Native.Nat.{ℕ, _+_, _-_, _*_, _<_, _≤_}
 use native.Mathlib.Omega.{arith}
-use lib.Dec.{leb, ltb}
+use lib.Dec.{ltb}
 use lib.Bits.{bitXor}
 use lib.ListN.{length, take, drop}
-use borrow.Author.Tests.{lt-ltb, le-ltb, leb-true, ne-eqb}
-use Rattle.bits.proofs.Tests.{by-test, both}
+use borrow.Author.Tests.{lt-ltb, le-ltb}
+use Rattle.bits.proofs.Tests.{by-test}
 use Rattle.checks.specs.Cross.{crossOf, amount, touchedCount}
 use Rattle.geometry.specs.declared.Geometry.{Geometry}
 use Rattle.geometry.specs.Accepted.{AcceptedGeometry}
 use Rattle.geometry.specs.Places.{firstBit, endBit, zoneFrom}
-use Rattle.model.specs.Chain.{Pair, Holder, free, owned, Entry}
+use Rattle.model.specs.Chain.{Pair}
 use Rattle.model.specs.Blocks.{blockAt}
 use Rattle.model.specs.Rules.{zoneBlock}
-use Rattle.model.specs.Pieces.{Piece, ownedIf, ownedOf}
-use Rattle.model.specs.Verdict.{every, holderFits, idFits}
+use Rattle.model.specs.Pieces.{Piece}
 use Rattle.model.specs.Drawing.{Drawable}
 use Rattle.model.proofs.ByPlace.{zone-end}
 use Rattle.zone.specs.Lines.{entriesIn}
-use Rattle.listing.specs.HeldBy.{ReadZone}
+use Rattle.listing.specs.HeldBy.{SoundZone}
 use Rattle.listing.proofs.HeldZones.{zone-reads}
 use Rattle.listing.proofs.FreeHeld.{ids-fit}
 use Rattle.calls.specs.Order.{Ascending}
-use Rattle.calls.specs.Edits.{put, own, without, touches, touchedFrom}
+use Rattle.calls.specs.Edits.{put, own, touches, touchedFrom}
 use Rattle.calls.specs.Judge.{place, pairsFrom}
 use Rattle.calls.proofs.Invariant.{pair-tested, some-bits}
 use Rattle.calls.proofs.PutIn.{asc-weaken}
@@ -35,6 +34,7 @@ use Rattle.runs.specs.Steps.{step}
 use Rattle.runs.proofs.Slices.{same-blocks}
 use Rattle.runs.proofs.ZonesTouched.{changeAt}
 use Rattle.writer.specs.ZoneEdit.{ZoneEdit, listedPieces, editedPieces}
+use Rattle.holes.proofs.OwnersSome.{none-of-zero}
 use Rattle.place.specs.Parts.{Rising, IsPart, Walking}
 use Rattle.place.specs.Asked.{WriteAsks, zoneAfter}
 use Rattle.place.proofs.ZonesJudged.{zone-listed, part-pairs, part-even, part-rising, part-some, part-touches, count-turn}
@@ -49,17 +49,6 @@ nothing-written g z id list change block e = rw (le-ltb 0 (length list) (omega a
 pub some-written : (g : Geometry) (z id : ℕ) (list : List ℕ) (change : ℕ) (block : List ℕ) → (length list ≡ 0 → ⊥)
     → written (g .idlen) (firstBit z) (endBit g) (editedPieces g z block 0 list id) (bitXor (crossOf block) change) block ≡ zoneAfter g z id list change block
 some-written g z id list change block n = rw (lt-ltb 0 (length list) (omega arith))
-
--- no piece is owned by 0
-none-of-zero : (g : Geometry) (es : List Entry) → every (idFits g) es ≡ true → without 0 (ownedOf es) ≡ ownedOf es
-none-of-zero g [] f = refl
-none-of-zero g (e ∷ es) f = go (e .holder) (both (idFits g e) (every (idFits g) es) f .0) (none-of-zero g es (both (idFits g e) (every (idFits g) es) f .1))
-  where
-    go : (h : Holder) → holderFits g h ≡ true → without 0 (ownedOf es) ≡ ownedOf es → without 0 (ownedIf h (e .at) (ownedOf es)) ≡ ownedIf h (e .at) (ownedOf es)
-    go free k ih = ih
-    go (owned id) k ih =
-        let l : 1 ≤ id = leb-true 1 id (both (leb 1 id) (ltb id (g .ids * g .zones)) k .0) in
-        simp (ne-eqb id 0 (λ e. omega arith)) (ap (λ (r : List Piece). own id (e .at) ∷ r) ih)
 
 -- pairs of a zone ascend in its block too
 blocks-ascend : (g : Geometry) → AcceptedGeometry g → (id z at : ℕ) (qs : List Pair) → Rising g at qs → zoneFrom g z ≤ at → Ascending (at + 512 - z * g .bits) (map (toBlock g z) (map (own id) qs))
@@ -92,7 +81,7 @@ module _ {m : List ℕ} {g : Geometry} {id start late : ℕ} {list : List ℕ} {
     abbrev block : List ℕ
     block = zoneBlock g m z
 
-    zone-read : ReadZone g z (zoneBlock g m z)
+    zone-read : SoundZone g z (zoneBlock g m z)
     zone-read = zone-reads (w .editable .accepted) z h
 
     edited-is : editedPieces g z (zoneBlock g m z) 0 (take (to - from) (drop from list)) id ≡ zonePieces m g id list z

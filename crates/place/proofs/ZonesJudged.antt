@@ -24,10 +24,12 @@ use Rattle.calls.specs.Judge.{pairsFrom}
 use Rattle.calls.proofs.Returned.{pairs-numbers}
 use Rattle.runs.proofs.ZonesTouched.{zone-give, count-next}
 use Rattle.listing.proofs.HeldZones.{zone-reads}
+use Rattle.holes.specs.EditableMap.{EditableMap}
+use Rattle.holes.proofs.EditableMap.{map-pieces, zone-pieces}
 use Rattle.place.specs.Parts.{Rising, zonePairs, IsPart}
 use Rattle.place.specs.Merged.{ownedInZone, zoneFits}
-use Rattle.place.specs.Asked.{EditableMap, ZoneAsks}
-use Rattle.place.proofs.ApartZones.{apart-zones}
+use Rattle.place.specs.Asked.{ZoneAsks}
+use Rattle.place.proofs.ApartZones.{owned-apart, owned-ascend}
 use Rattle.runs.specs.Editable.{piecesOn}
 
 -- a zone's listed pieces
@@ -83,20 +85,19 @@ no-pairs (q ∷ qs) h = absurd (omega arith)
 
 module _ {m : List ℕ} {g : Geometry} (e : EditableMap m g) {list : List ℕ} {z from to : ℕ} (h : z < g .zones) (p : IsPart g list z from to) where
   pub zone-asks : ZoneAsks g z (zoneBlock g m z) (take (to - from) (drop from list))
-  zone-asks = record { read = zone-reads (e .accepted) z h; even = part-even p; rising = part-rising p; ascend = apart-zones e .ascend-at z h }
+  zone-asks = record { read = zone-reads (e .accepted) z h; even = part-even p; rising = part-rising p; ascend = owned-ascend e z h }
 
   pub zone-verdict : (id : ℕ) → apart (g .shortest) (zoneFrom g z) (zoneEnd g z) (inZone g z (give id (pairsFrom list) (piecesOn g m))) ≡ zoneFits g z id (zoneBlock g m z) (take (to - from) (drop from list))
   zone-verdict id =
-      let f = apart-zones e in
       let old = ownedInZone g z (zoneBlock g m z) in
       let new : inZone g z (give id (pairsFrom list) (piecesOn g m)) ≡ put (map (own id) (pairsFrom (part p))) old =
-      zone-give g z id (pairsFrom list) (piecesOn g m) (f .weak)
-      ∙ ap₂ put (zone-listed g z id (pairsFrom list) ∙ ap (map (own id)) (sym (part-pairs p))) (f .pieces-at z h) in
+      zone-give g z id (pairsFrom list) (piecesOn g m) (map-pieces e .fit .weak)
+      ∙ ap₂ put (zone-listed g z id (pairsFrom list) ∙ ap (map (own id)) (sym (part-pairs p))) (zone-pieces e z h) in
       ap (apart (g .shortest) (zoneFrom g z) (zoneEnd g z)) new
       ∙ by-test (ltb 0 (length (part p)))
       (λ t. rw t refl)
       (λ t. let n : pairsFrom (part p) ≡ [] = part-pairs p ∙ no-pairs (zonePairs g z (pairsFrom list)) (omega (arith, part-length p, part-double p, ltb-false 0 (length (part p)) t)) in
-      rw t (ap (λ (qs : List Pair). apart (g .shortest) (zoneFrom g z) (zoneEnd g z) (put (map (own id) qs) old)) n ∙ f .apart-at z h))
+      rw t (ap (λ (qs : List Pair). apart (g .shortest) (zoneFrom g z) (zoneEnd g z) (put (map (own id) qs) old)) n ∙ owned-apart e z h))
 
 -- one zone more
 pub judged-turn : (g : Geometry) (l : List Piece) (z : ℕ) (fits zone both all : Bool) → z < g .zones → fits && allApart g z (g .zones - z) l ≡ all

@@ -2,12 +2,10 @@
 use mathlib.Core.Path.{_≡_}
 use mathlib.Core.Bool.{true, cond}
 use mathlib.Core.List.{List}
-use mathlib.Core.Option.{none}
 use Prim.Native.Nat.{ℕ, _%_}
 use lib.Dec.{ltb}
 use lib.ListN.{length}
 use lib.Bits.{bitXor}
-use Rattle.bits.specs.Bits.{Bytes}
 use Rattle.checks.specs.Cross.{crossOf, touchedCount}
 use Rattle.geometry.specs.declared.Geometry.{Geometry}
 use Rattle.geometry.specs.Places.{firstBit, endBit, zoneFrom, startZone, idFrom}
@@ -16,19 +14,12 @@ use Rattle.calls.specs.Order.{Ascending}
 use Rattle.calls.specs.Edits.{gives, touchedZones}
 use Rattle.calls.specs.Judge.{place, accepted, isEmpty, listFits, judge, pairsFrom}
 use Rattle.runs.specs.Written.{written}
-use Rattle.runs.specs.Steps.{touching}
-use Rattle.map.specs.Accepted.{AcceptedMap}
-use Rattle.listing.specs.HeldBy.{ReadZone}
-use Rattle.runs.specs.Editable.{zonesOf, piecesOn}
+use Rattle.listing.specs.HeldBy.{SoundZone}
+use Rattle.runs.specs.Editable.{piecesOn}
 use Rattle.writer.specs.ZoneEdit.{editedPieces}
+use Rattle.holes.specs.EditableMap.{EditableMap}
 use Rattle.place.specs.Parts.{Rising, Walking}
 use Rattle.place.specs.Merged.{ownedInZone}
-
--- a map that edits work on: accepted, and not refused with 9
-pub record EditableMap (m : List ℕ) (g : Geometry) : Type 0 where
-  pub accepted : AcceptedMap m g
-  pub apart : touching 0 (zonesOf m) ≡ none
-  pub bytes : Bytes m
 
 -- 8, 11 and 12 are judged
 pub record PlaceAsks (m : List ℕ) (g : Geometry) (id start : ℕ) (list : List ℕ) : Type 0 where
@@ -47,7 +38,7 @@ pub record WriteAsks (m : List ℕ) (g : Geometry) (id start late : ℕ) (list :
 
 -- a zone that keeps the rules, and pairs of it
 pub record ZoneAsks (g : Geometry) (z : ℕ) (block list : List ℕ) : Type 0 where
-  pub read : ReadZone g z block
+  pub read : SoundZone g z block
   pub even : length list % 2 ≡ 0
   pub rising : Rising g (zoneFrom g z) (pairsFrom list)
   pub ascend : Ascending 0 (ownedInZone g z block)

@@ -7,7 +7,7 @@ use lib.Dec.{eqb, ltb, leb}
 use lib.ListN.{length, take, drop}
 use Rattle.geometry.specs.declared.Geometry.{Geometry}
 use Rattle.geometry.specs.Places.{zoneOf, zoneFrom, discBits}
-use Rattle.model.specs.Chain.{Pair, numbersOf, pair}
+use Rattle.model.specs.Chain.{Pair, numbersOf}
 use Rattle.model.specs.Pieces.{keep}
 use Rattle.calls.specs.Judge.{pairsFrom, pairFits}
 

@@ -8,13 +8,13 @@ use Rattle.runs.specs.Steps.{Outcome, refused, done, outcome, step}
 use Rattle.place.specs.declared.Placed.{Placed}
 use Rattle.place.specs.declared.Placed.the-variants as placed
 
-abbrev pub answerOf : Outcome → Placed
-answerOf (refused n z) = placed.Refused (refusal n z)
-answerOf (done e s) = placed.Done
+abbrev pub placeAnswer : Outcome → Placed
+placeAnswer (refused n z) = placed.Refused (refusal n z)
+placeAnswer (done e s) = placed.Done
 
 -- the answer and every byte of the map
 pub record Places (m : List ℕ) (id : ℕ) (list : List ℕ) (r : Placed) (after : List ℕ) : Type 0 where
-  pub answer : r ≡ answerOf (outcome m (call.place id list))
+  pub answer : r ≡ placeAnswer (outcome m (call.place id list))
   pub bytes : after ≡ step m (call.place id list)
 
 -- the paper's numbers: refusal (0: accepted) and zone told

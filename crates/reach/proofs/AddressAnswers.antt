@@ -19,8 +19,8 @@ use Rattle.geometry.specs.Answers.{refusal, startOf}
 use Rattle.geometry.proofs.DiscBits.{disc-bits-small}
 use Rattle.geometry.proofs.Starts.{start-in-range, named, not-named}
 use Rattle.model.specs.Chain.{Pair}
-use Rattle.model.specs.Verdict.{mapRead}
-use Rattle.model.specs.Verdict as read
+use Rattle.model.specs.Check.{mapRead}
+use Rattle.model.specs.Check as read
 use Rattle.model.specs.Pieces.{piecesOfZones, objectPairs}
 use Rattle.map.specs.Accepted.{AcceptedMap}
 use Rattle.map.specs.Checked.{checked}

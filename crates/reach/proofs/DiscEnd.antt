@@ -15,7 +15,7 @@ use Rattle.geometry.specs.Places.{firstBit, endBit, discBit}
 use Rattle.geometry.proofs.DiscBits.{from-zero-on}
 use Rattle.model.specs.Chain.{Pair, Holder, free, owned, Entry}
 use Rattle.model.specs.Rules.{zoneBlock}
-use Rattle.model.specs.Verdict.{sound, zoneRead, every, isOwned, idFits, endFits, firstOwned}
+use Rattle.model.specs.Check.{sound, zoneRead, every, isOwned, idFits, endFits, firstOwned}
 use Rattle.model.specs.Pieces.{Piece, keep, ownedIf, ownedOf, pieceToDisc, piecesOfZones, piecesOf, late, objectPairs}
 use Rattle.model.proofs.ZoneTests.{zone-tests}
 use Rattle.map.specs.Accepted.{AcceptedMap}

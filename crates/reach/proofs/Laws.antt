@@ -6,10 +6,10 @@ use Prim.Native.Nat.{ℕ, _<_}
 use Rattle.geometry.specs.declared.Geometry.{Geometry}
 use Rattle.geometry.specs.Record.{geometryOf}
 use Rattle.model.specs.Chain.{Entry}
-use Rattle.model.specs.Verdict.{entries, mapRead}
+use Rattle.model.specs.Check.{entries, mapRead}
 use Rattle.model.specs.Pieces.{piecesOfZones, objectPairs, freeSpans}
 use Rattle.map.specs.Accepted.{AcceptedMap}
-use Rattle.map.specs.Checked.{answer}
+use Rattle.map.specs.Checked.{checkAnswer}
 use Rattle.map.proofs.Accepts.{accepts}
 use Rattle.reach.specs.Address.{Sought, at, seek}
 use Rattle.reach.specs.Sweep.{covers, objectSpans}
@@ -26,7 +26,7 @@ module _ (m : List ℕ) (ess : List (List Entry)) (e : mapRead m ≡ entries ess
   g = geometryOf m
 
   accepted : AcceptedMap m g
-  accepted = accepts m g (ap (answer g) e)
+  accepted = accepts m g (ap (checkAnswer g) e)
 
   same-zones : accepted .zones ≡ ess
   same-zones = let k : entries (accepted .zones) ≡ entries ess = sym (accepted .read) ∙ e in cc

@@ -14,8 +14,8 @@ use Rattle.geometry.specs.Record.{geometryOf}
 use Rattle.geometry.specs.Places.{idFrom, discBits}
 use Rattle.geometry.specs.Answers.{refusal}
 use Rattle.model.specs.Chain.{Pair}
-use Rattle.model.specs.Verdict.{mapRead}
-use Rattle.model.specs.Verdict as read
+use Rattle.model.specs.Check.{mapRead}
+use Rattle.model.specs.Check as read
 use Rattle.map.specs.Accepted.{AcceptedMap}
 use Rattle.map.specs.Checked.{checked}
 use Rattle.map.specs.declared.Checked.the-variants as check

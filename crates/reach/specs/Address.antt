@@ -1,19 +1,16 @@
 -- From a file's internal number and a position to a disc address (document 01, "Address", refusals 8, 10, 16). Assumes nothing.
-use mathlib.Core.Path.{_≡_}
-use mathlib.Core.Bool.{Bool, true, false, cond, _&&_}
-use mathlib.Core.List.{List, [], _∷_, _++_}
-use mathlib.Core.Option.{Option, none, some}
-use Prim.Native.Nat.{ℕ, zero, suc, _+_, _-_, _*_, _/_, _%_}
+use mathlib.Core.Bool.{Bool, cond, _&&_}
+use mathlib.Core.List.{List, [], _∷_}
+use Prim.Native.Nat.{ℕ, _+_, _-_, _*_, _/_, _%_}
 use lib.Dec.{eqb, ltb}
 use Rattle.geometry.specs.declared.Geometry.{Geometry}
 use Rattle.geometry.specs.Record.{geometryOf}
 use Rattle.geometry.specs.Places.{idFrom}
 use Rattle.geometry.specs.Answers.{refusal}
 use Rattle.model.specs.Chain.{Pair}
-use Rattle.model.specs.Verdict.{MapRead, mapRead}
-use Rattle.model.specs.Verdict as read
+use Rattle.model.specs.Check.{MapRead, mapRead}
+use Rattle.model.specs.Check as read
 use Rattle.model.specs.Pieces.{piecesOfZones, objectPairs}
-use Rattle.reach.specs.declared.Location.{Location}
 use Rattle.reach.specs.declared.Reached.{Reached}
 use Rattle.reach.specs.declared.Reached.the-variants as reached
 

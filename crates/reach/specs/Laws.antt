@@ -6,7 +6,7 @@ use Prim.Native.Nat.{ℕ, zero, suc, _+_, _*_, _<_}
 use lib.ListN.{length, getD}
 use Rattle.geometry.specs.Record.{geometryOf}
 use Rattle.model.specs.Chain.{Pair, Entry}
-use Rattle.model.specs.Verdict.{entries, mapRead}
+use Rattle.model.specs.Check.{entries, mapRead}
 use Rattle.model.specs.Pieces.{piecesOfZones, objectPairs, freeSpans}
 use Rattle.reach.specs.Address.{seek, at}
 use Rattle.reach.specs.Sweep.{covers, sweptBytes, coveredCount, objectSpans}

@@ -1,7 +1,7 @@
 -- A sweep of a stretch of disc image (document 01, "Sweep", refusals 8, 10, 16): the fill at each address of the class within
 -- the stretch, every other byte as it was, and how many addresses those are. Assumes nothing.
 use mathlib.Core.Path.{_≡_}
-use mathlib.Core.Bool.{Bool, true, false, cond, _&&_, _||_}
+use mathlib.Core.Bool.{Bool, false, cond, _&&_, _||_}
 use mathlib.Core.List.{List, [], _∷_, map}
 use Prim.Native.Nat.{ℕ, zero, suc, _+_, _*_}
 use lib.Dec.{ltb, leb}
@@ -11,8 +11,8 @@ use Rattle.geometry.specs.Record.{geometryOf}
 use Rattle.geometry.specs.Places.{idFrom}
 use Rattle.geometry.specs.Answers.{refusal}
 use Rattle.model.specs.Chain.{Pair, Entry}
-use Rattle.model.specs.Verdict.{MapRead, mapRead}
-use Rattle.model.specs.Verdict as read
+use Rattle.model.specs.Check.{MapRead, mapRead}
+use Rattle.model.specs.Check as read
 use Rattle.model.specs.Pieces.{Piece, piecesOfZones, piecesOf, freeSpans}
 use Rattle.reach.specs.declared.Swept.{Swept}
 use Rattle.reach.specs.declared.Swept.the-variants as swept

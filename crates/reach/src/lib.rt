@@ -5,13 +5,13 @@ use geometry::Start;
 use map::Checked;
 ghost use mathlib.Core.Path.{_≡_};
 ghost use mathlib.Core.List.{_++_};
-ghost use Prim.Native.Nat.{ℕ, _+_, _-_, _*_, _/_, _%_, _^_, _<_, _≤_, min};
+ghost use Prim.Native.Nat.{_+_, _-_, _*_, _/_, _%_, _^_, _<_, _≤_, min};
 ghost use lib.Dec.{ltb};
 ghost use lib.ListN.{length, take, drop, replicate};
 ghost use Rattle.geometry.specs.Accepted.{AcceptedGeometry};
 ghost use Rattle.map.specs.Accepted.{AcceptedMap};
 ghost use Rattle.zone.specs.Lines.{entriesIn};
-ghost use Rattle.listing.specs.HeldBy.{ReadZone, pairsIn, heldBy, inDiscBits, heldFrom};
+ghost use Rattle.listing.specs.HeldBy.{SoundZone, pairsIn, heldBy, inDiscBits, heldFrom};
 ghost use Rattle.reach.specs.Address.{startOffset, seek, within, addressFound, addressAnswer};
 ghost use Rattle.reach.specs.Sweep.{sweptBytes, objectSweep, freeSweep, Sweeps};
 ghost use Rattle.reach.specs.Parts.{seekOf, wantedPair, pairCounts};
@@ -22,6 +22,7 @@ pub struct Location {
     pub address: u64,
 }
 
+// A disc address, or a refusal.
 pub enum Reached {
     At(Location),
     Refused(Refusal),
@@ -165,8 +166,9 @@ fn seek_zones(map: &[u8], g: Geometry, holder: u32, from: usize, to: usize, i: u
     Seek::Past(left)
 }
 
+// Byte i of a holder's fragments in zone z, joined.
 fn seek_zone(block: &[u8], z: usize, g: Geometry, holder: u32, i: usize) -> Seek
-    requires { ⌜ ReadZone g z (now block) ⌝ }
+    requires { ⌜ SoundZone g z (now block) ⌝ }
     ensures { λ r. ⌜ r ≡ seekOf (seek (g .unit) (inDiscBits g z (heldBy holder (entriesIn g z (now (block .entry))))) i) ⌝ }
 {
     let mut lines = [0u32; 2048];
@@ -174,6 +176,7 @@ fn seek_zone(block: &[u8], z: usize, g: Geometry, holder: u32, i: usize) -> Seek
     seek_lines(&lines, n, holder, g.unit, i)
 }
 
+// Byte i of a holder's lines, joined.
 fn seek_lines(lines: &[u32], n: usize, holder: u32, unit: usize, i: usize) -> Seek
     requires { ⌜ (3 * n ≤ length (now lines)) × (unit ≤ 4096) ⌝ }
     ensures { λ r. ⌜ r ≡ seekOf (seek unit (pairsIn holder (take (3 * n) (now (lines .entry)))) i) ⌝ }
@@ -274,6 +277,7 @@ fn sweep_zones(
     count
 }
 
+// Sweeps a holder's fragments of zone z; answers how many bytes were written.
 fn sweep_zone(
     block: &[u8],
     z: usize,
@@ -283,7 +287,7 @@ fn sweep_zone(
     first: usize,
     fill: u8,
 ) -> usize
-    requires { ⌜ ReadZone g z (now block) ⌝ }
+    requires { ⌜ SoundZone g z (now block) ⌝ }
     ensures bytes { λ r. ⌜ now (image .exit) ≡ sweptBytes (g .unit) (inDiscBits g z (heldBy holder (entriesIn g z (now (block .entry))))) fill first (now (image .entry)) ⌝ }
     ensures count { λ r. ⌜ r ≡ pairCounts (g .unit) (inDiscBits g z (heldBy holder (entriesIn g z (now (block .entry))))) first (length (now (image .entry))) ⌝ }
 {
@@ -292,6 +296,7 @@ fn sweep_zone(
     sweep_lines(&lines, n, holder, g.unit, image, first, fill)
 }
 
+// Sweeps a holder's lines; answers how many bytes were written.
 fn sweep_lines(
     lines: &[u32],
     n: usize,
@@ -357,6 +362,7 @@ fn clip(a: usize, first: usize, n: usize) -> usize
     n
 }
 
+// Fills the bytes from `from` to `to`.
 fn fill_bytes(image: &mut [u8], from: usize, to: usize, fill: u8)
     requires { ⌜ (from ≤ to) × (to ≤ length (now image)) ⌝ }
     ensures { λ _. ⌜ now (image .exit) ≡ take from (now (image .entry)) ++ (replicate (to - from) fill ++ drop to (now (image .entry))) ⌝ }

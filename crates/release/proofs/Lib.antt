@@ -1,6 +1,6 @@
-pub mod ZoneCounted
-pub mod TouchedZones
+pub mod Marking
 pub mod Releasing
 pub mod ReleasedBytes
 pub mod ListedVerdict
+pub mod PairsListed
 pub mod Answers

@@ -1,43 +1,56 @@
--- An object's pieces leave a map, zone after zone: a zone that has some is written anew, any other keeps its block. Assumes
--- nothing.
+-- A release, zone by zone: the zones in which the object's pairs lie are marked and counted, each of them is written anew, and any
+-- other keeps its block. Assumes nothing.
 use mathlib.Core.Path.{_≡_}
-use mathlib.Core.Bool.{Bool, cond}
+use mathlib.Core.Bool.{Bool, false, cond}
 use mathlib.Core.List.{List}
-use Prim.Native.Nat.{ℕ, zero, suc, _+_, _<_}
-use lib.Dec.{ltb}
-use lib.ListN.{length}
+use Prim.Native.Nat.{ℕ, _*_, _<_, _≤_}
+use lib.ListN.{length, getD, take}
 use lib.Bits.{bitXor}
-use Rattle.checks.specs.Cross.{crossOf, amount}
+use Rattle.bits.specs.Bits.{byteBits}
+use Rattle.checks.specs.Cross.{crossOf, amount, touchedCount}
 use Rattle.geometry.specs.declared.Geometry.{Geometry}
-use Rattle.geometry.specs.Places.{firstBit, endBit}
-use Rattle.model.specs.Pieces.{ownedOf}
+use Rattle.geometry.specs.Accepted.{AcceptedGeometry}
+use Rattle.geometry.specs.Places.{zoneOf, firstBit, endBit}
+use Rattle.model.specs.Chain.{Pair}
+use Rattle.model.specs.Pieces.{ownedOf, objectPairs}
 use Rattle.model.specs.Rules.{zoneBlock}
-use Rattle.calls.specs.Edits.{without}
+use Rattle.calls.specs.Edits.{without, touches, touchedFrom, touchedZones}
+use Rattle.calls.specs.Judge.{pairsFrom}
+use Rattle.runs.specs.Editable.{piecesOn}
 use Rattle.runs.specs.Written.{written}
 use Rattle.zone.specs.Lines.{entriesIn}
-use Rattle.listing.specs.HeldBy.{heldBy}
 
--- whether zone z has pieces of an object, and 1 where it has
-abbrev pub hasPieces : Geometry → ℕ → ℕ → List ℕ → Bool
-hasPieces g z id block = ltb 0 (length (heldBy id (entriesIn g z block)))
+-- the first n pairs of a list
+abbrev pub firstPairs : ℕ → List ℕ → List Pair
+firstPairs n pairs = pairsFrom (take (2 * n) pairs)
 
-abbrev pub touchedIn : Geometry → ℕ → ℕ → List ℕ → ℕ
-touchedIn g z id block = cond (hasPieces g z id block) 1 0
+-- an object's pairs on a map
+abbrev pub objectOn : Geometry → List ℕ → ℕ → List Pair
+objectOn g m id = objectPairs g id (piecesOn g m)
 
--- how many zones below z have pieces of the object
-abbrev pub touchedBelow : Geometry → ℕ → List ℕ → ℕ → ℕ
-touchedBelow g id m zero = 0
-touchedBelow g id m (suc z) = touchedBelow g id m z + touchedIn g z id (zoneBlock g m z)
+-- n pairs that lie in zones of the map, and a bit for each zone, not yet marked
+pub record MarkAsks (g : Geometry) (pairs : List ℕ) (n : ℕ) (marks : List ℕ) : Type 0 where
+  pub numbers : AcceptedGeometry g
+  pub listed : 2 * n ≤ length pairs
+  pub zoned : (i : ℕ) → i < n → zoneOf g (getD pairs (2 * i) 0) < g .zones
+  pub room : g .zones ≤ length marks * 8
+  pub clear : (z : ℕ) → z < g .zones → getD (byteBits marks) z false ≡ false
+
+-- the zones that pairs touch, marked and counted
+pub record TouchedMarked (g : Geometry) (qs : List Pair) (marks : List ℕ) (touched : ℕ) : Type 0 where
+  pub room : g .zones ≤ length marks * 8
+  pub each : (z : ℕ) → z < g .zones → getD (byteBits marks) z false ≡ touches g z qs
+  pub count : touched ≡ touchedCount (touchedZones g qs)
 
 -- zone z after the object went, the i-th of n touched zones if it is one
-abbrev pub zoneAfter : Geometry → ℕ → ℕ → ℕ → ℕ → List ℕ → List ℕ
-zoneAfter g z gone n i block =
-    cond (hasPieces g z gone block)
+abbrev pub zoneAfter : Geometry → ℕ → ℕ → Bool → ℕ → ℕ → List ℕ → List ℕ
+zoneAfter g z gone touched n i block =
+    cond touched
     (written (g .idlen) (firstBit z) (endBit g) (without gone (ownedOf (entriesIn g z block))) (bitXor (crossOf block) (amount n i)) block)
     block
 
--- the map after the object went, by its zones
-pub record ReleasedMap (g : Geometry) (gone : ℕ) (m after : List ℕ) : Type 0 where
+-- the map after the object went with its pairs qs, by its zones
+pub record ReleasedMap (g : Geometry) (gone : ℕ) (qs : List Pair) (m after : List ℕ) : Type 0 where
   pub kept : length after ≡ length m
   pub each : (z : ℕ) → z < g .zones
-      → zoneBlock g after z ≡ zoneAfter g z gone (touchedBelow g gone m (g .zones)) (touchedBelow g gone m z) (zoneBlock g m z)
+      → zoneBlock g after z ≡ zoneAfter g z gone (touches g z qs) (touchedCount (touchedZones g qs)) (touchedCount (touchedFrom g qs 0 z)) (zoneBlock g m z)

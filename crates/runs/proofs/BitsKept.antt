@@ -16,10 +16,10 @@ use Rattle.model.specs.Chain.{Entry}
 use Rattle.model.specs.Blocks.{blockAt}
 use Rattle.model.specs.Pieces.{Piece}
 use Rattle.model.specs.Drawing.{Drawable}
-use Rattle.model.specs.Verdict.{entries, mapRead}
+use Rattle.model.specs.Check.{entries, mapRead}
 use Rattle.calls.specs.Edits.{inZone}
 use Rattle.calls.specs.Judge.{Call}
-use Rattle.calls.specs.Runs.{run}
+use Rattle.calls.proofs.PieceRuns.{run}
 use Rattle.runs.specs.Written.{written, toBlock}
 use Rattle.runs.specs.Steps.{touching, discOf, steps}
 use Rattle.runs.proofs.BlockBits.{BitsInBlock, header-rest, four-bytes, front-new}

@@ -15,7 +15,7 @@ use Rattle.model.specs.Fragments.{fragmentsIn}
 use Rattle.model.specs.Chain.{Entry, noneTouch}
 use Rattle.model.specs.Blocks.{freeLink, linkIn, allocBits}
 use Rattle.model.specs.Pieces.{Piece, ownedOf}
-use Rattle.model.specs.Drawing.{drawnFragments, draw, linkOf, drawnEntries, readZone, Drawable}
+use Rattle.model.specs.Drawing.{drawnFragments, draw, linkOf, drawnEntries, readBits, Drawable}
 use Rattle.model.proofs.ChainDrawn.{Lies}
 use Rattle.model.proofs.FragmentsRead.{cut-written}
 use Rattle.model.proofs.ZoneDrawn.{fit-drawn, read-lies, read-drawn, drawn-read}
@@ -61,9 +61,9 @@ module _ (idlen at end : ℕ) (b : List ℕ) (y : BitsInBlock idlen at end b) wh
         ∙ subst (λ (i : ℕ). fragmentsIn idlen (draw i at end ps) ≡ some (drawnFragments at end ps)) e
         (cut-written (idlen - 1) (drawnFragments at end ps) (fit-drawn (suc (idlen - 1)) at end ps (rw e (omega arith)) (rw e d)))
 
-    pub read-written : readZone idlen at (linkIn (written idlen at end ps cross b)) (allocBits at end (written idlen at end ps cross b)) ≡ some (drawnEntries at end ps)
+    pub read-written : readBits idlen at (linkIn (written idlen at end ps cross b)) (allocBits at end (written idlen at end ps cross b)) ≡ some (drawnEntries at end ps)
     read-written =
-        ap₂ (readZone idlen at) (link-written idlen at end ps cross b) alloc-written
+        ap₂ (readBits idlen at) (link-written idlen at end ps cross b) alloc-written
         ∙ read-drawn idlen (y .ids) at end ps (omega arith) (omega arith) d
 
     -- written twice: as written the second time
@@ -81,7 +81,7 @@ pub record BlockRead (idlen at end : ℕ) (b : List ℕ) (es : List Entry) : Typ
   pub bytes : Bytes b
   pub check : getD b 0 0 ≡ zoneCheck b
   pub top-bit : 32768 ≤ freeLink b
-  pub read : readZone idlen at (linkIn b) (allocBits at end b) ≡ some es
+  pub read : readBits idlen at (linkIn b) (allocBits at end b) ≡ some es
   pub none-touch : noneTouch false es ≡ true
 
 -- bytes by their place, and from a place on

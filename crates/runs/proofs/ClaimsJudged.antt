@@ -26,7 +26,7 @@ use Rattle.calls.proofs.Kept.{all-keep}
 use Rattle.calls.proofs.HolesLeft.{apart-lies}
 use Rattle.calls.proofs.ClaimFits.{first-in}
 use Rattle.calls.proofs.Invariant.{FitPieces, some-bits}
-use Rattle.calls.proofs.RunsKept.{lowest-absent}
+use Rattle.calls.proofs.RunsKept.{lowest-absent, lowest-lt}
 use Rattle.runs.specs.Editable.{zonesOf, Editable, piecesOn}
 use Rattle.runs.specs.Claims.{spansOn, ClaimRules}
 use Rattle.runs.proofs.MapAccepted.{map-geometry, map-disc}
@@ -140,6 +140,7 @@ claim-rules m ed size id h i e =
     let k = first-in n hs h e in
     record {
       from-3 = lowest-least l ids 3 id i;
+      below = omega (arith, lowest-lt l ids 3 id i);
       unused = ap (λ (ps : List Piece). map (λ (p : Piece). p .at) (rotate (late g id) ps)) (lowest-absent l ids 3 id i);
       lowest = λ j lo hi q. lowest-first l ids 3 id i j lo hi (none-listed g j l q);
       hole = h;

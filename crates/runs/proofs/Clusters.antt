@@ -1,7 +1,7 @@
 -- Whole clusters. Sums and differences of multiples of k are multiples of k, so pieces in whole clusters leave gaps in whole
 -- clusters, in block bits and in disc bits alike; and a fragment in whole clusters that holds an id has at least m bits.
 use mathlib.Core.Path.{_≡_, refl, sym, ap, _∙_, subst}
-use mathlib.Core.Bool.{Bool, true, _&&_}
+use mathlib.Core.Bool.{true}
 use mathlib.Core.List.{List, [], _∷_, map}
 use Prim.Native.Nat.{ℕ, zero, suc, _+_, _-_, _*_, _/_, _%_, _<_, _≤_}
 use native.Mathlib.Nat.{add-mod, zero-mod, zero-mul, suc-mul, mod-eq-zero-of-dvd, dvd-of-mod-eq-zero, dvd-sub, div-add-mod', div-lt-iff-lt-mul, mul-le-mul-right}
@@ -15,7 +15,7 @@ use Rattle.geometry.specs.Places.{firstBit, endBit, zoneFrom, zoneEnd}
 use Rattle.model.specs.Fragments.{Fragment}
 use Rattle.model.specs.Pieces.{Piece, pieceToDisc}
 use Rattle.model.specs.Drawing.{gap, drawnFragments}
-use Rattle.model.specs.Verdict.{inClusters}
+use Rattle.model.specs.Check.{inClusters}
 use Rattle.model.proofs.ChainDrawn.{Lies}
 use Rattle.calls.proofs.Kept.{All}
 use Rattle.calls.proofs.Returned.{isWhole}

@@ -11,10 +11,10 @@ use Rattle.checks.proofs.Changes.{sum-kept}
 use Rattle.geometry.specs.declared.Geometry.{Geometry}
 use Rattle.geometry.specs.Accepted.{AcceptedGeometry}
 use Rattle.model.specs.Chain.{Pair}
-use Rattle.model.specs.Verdict.{entries, blocksRead}
+use Rattle.model.specs.Check.{entries, blocksRead}
 use Rattle.calls.specs.Edits.{Disc, touchedFrom, touchedZones, crossed, takes, gives}
-use Rattle.calls.specs.Judge.{Call, Verdict, refused, accepted, judge, obey}
-use Rattle.calls.specs.Runs.{after, run}
+use Rattle.calls.specs.Judge.{Call, Verdict, refused, accepted, judge}
+use Rattle.calls.proofs.PieceRuns.{obey, after, run}
 use Rattle.runs.specs.Written.{rewritten}
 use Rattle.runs.proofs.Slices.{Sized}
 use Rattle.runs.proofs.PiecesKept.{AcceptedPieces, accepted-after}

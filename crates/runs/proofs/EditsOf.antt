@@ -1,5 +1,5 @@
 -- A run's outcomes on bytes are its verdicts on pieces: the accepted edits are the same, call by call.
-use mathlib.Core.Path.{_≡_, refl, sym, ap, ap₂, _∙_, subst, subst⁻¹}
+use mathlib.Core.Path.{_≡_, refl, sym, ap, ap₂, _∙_}
 use mathlib.Core.List.{List, [], _∷_}
 use mathlib.Core.Option.{none}
 use Prim.Native.Nat.{ℕ}
@@ -8,16 +8,16 @@ use Rattle.bits.specs.Bits.{Bytes}
 use Rattle.geometry.specs.declared.Geometry.{Geometry}
 use Rattle.geometry.specs.Record.{geometryOf}
 use Rattle.model.specs.Chain.{Entry}
-use Rattle.model.specs.Verdict.{entries, mapRead}
-use Rattle.calls.specs.Edits.{Disc, Edit, edit}
-use Rattle.calls.specs.Judge.{Call, Verdict, judge, obey}
+use Rattle.model.specs.Check.{entries, mapRead}
+use Rattle.calls.specs.Edits.{Disc, Edit}
+use Rattle.calls.specs.Judge.{Call, Verdict, judge}
 use Rattle.calls.specs.Judge as judged
-use Rattle.calls.specs.Runs.{edits}
-use Rattle.calls.specs.Runs as onPieces
-use Rattle.runs.specs.Steps.{Outcome, touching, discOf, refused, done, byVerdict, outcome, step, steps}
-use Rattle.runs.specs.Demand3.{kept, editsOf, Accepted}
+use Rattle.calls.proofs.PieceRuns.{obey, edits}
+use Rattle.calls.proofs.PieceRuns as onPieces
+use Rattle.runs.specs.Steps.{Outcome, touching, discOf, refused, done, byVerdict, outcome, step}
+use Rattle.runs.specs.Demand3.{kept, editsOf}
 use Rattle.runs.proofs.StepWritten.{outcome-judged}
-use Rattle.runs.proofs.RunsOnBytes.{ReadsAs, step-refused, step-accepted, bytes-kept}
+use Rattle.runs.proofs.RunsOnBytes.{step-refused, step-accepted, bytes-kept}
 
 pub edits-same : (cs : List Call) (m : List ℕ) (ess : List (List Entry)) → Bytes m → mapRead m ≡ entries ess → touching 0 ess ≡ none
     → editsOf m cs ≡ edits (geometryOf m) (discOf m ess) cs

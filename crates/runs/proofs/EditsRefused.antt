@@ -1,34 +1,41 @@
--- Refusals 13, 14 and 15 and what a claim takes: the verdict on a map's pieces, carried to its outcome.
+-- Refusals 12 to 15 and what a claim takes: the verdict on a map's pieces, carried to its outcome.
 use mathlib.Core.Path.{_≡_, refl, sym, ap, ap₂, _∙_, subst, subst⁻¹}
-use mathlib.Core.Bool.{Bool, true, false}
+use mathlib.Core.Bool.{Bool, true, false, false≢true}
 use mathlib.Core.List.{List, [], _∷_}
 use mathlib.Core.Option.{Option, none, some}
 use Prim.Native.Nat.{ℕ, _-_, _*_, _<_}
 use native.Mathlib.Omega.{arith}
 use lib.Dec.{ltb}
 use borrow.Author.Tests.{lt-ltb}
+use Rattle.bits.specs.Bits.{Bytes}
 use Rattle.bits.proofs.Tests.{by-test}
 use Rattle.geometry.specs.declared.Geometry.{Geometry}
 use Rattle.geometry.specs.Record.{geometryOf}
 use Rattle.geometry.specs.Accepted.{AcceptedGeometry}
-use Rattle.model.specs.Chain.{Pair}
+use Rattle.model.specs.Chain.{Pair, Entry}
+use Rattle.model.specs.Check.{MapRead, entries, mapRead}
+use Rattle.model.specs.Check as read
 use Rattle.model.specs.Pieces.{Piece, piecesOf}
 use Rattle.calls.specs.Edits.{Disc, Edit, give, gives}
 use Rattle.calls.specs.Holes.{holesFrom, allApart}
-use Rattle.calls.specs.Judge.{Call, place, claim, Verdict, unless, isEmpty, editable, listFits, pairsFrom, need, firstHole, taken, lowest, claimIn, judge}
+use Rattle.calls.specs.Judge.{Call, place, claim, Verdict, unless, isEmpty, editable, numberFits, listFits, pairsFrom, need, firstHole, taken, lowest, claimIn, judge}
 use Rattle.calls.specs.Judge as judged
 use Rattle.calls.specs.Room.{In, RoomFor}
+use Rattle.calls.specs.ListRules.{ListRules}
 use Rattle.calls.proofs.Invariant.{FitPieces}
-use Rattle.calls.proofs.RunsKept.{unless-inv, same-edit}
+use Rattle.calls.proofs.RunsKept.{unless-inv, same-edit, place-tests}
+use Rattle.calls.proofs.Twelve.{fits-gives-rules, rules-give-fits}
 use Rattle.calls.proofs.Thirteen.{thirteen}
 use Rattle.calls.proofs.Fourteen as onPieces
-use Rattle.runs.specs.Steps.{refused, byVerdict, discOf, outcome}
-use Rattle.runs.specs.Editable.{zonesOf, Editable, piecesOn}
+use Rattle.runs.specs.Steps.{touching, discOf, refused, byVerdict, byTouching, byRead, outcome}
+use Rattle.runs.specs.Editable.{zonesOf, Editable, piecesOn, listedOn}
 use Rattle.runs.specs.Demand3.{Accepted}
 use Rattle.runs.specs.Claims.{spansOn, ClaimRules}
 use Rattle.runs.proofs.StepWritten.{outcome-judged}
 use Rattle.runs.proofs.MapAccepted.{map-geometry, map-disc}
-use Rattle.runs.proofs.EditsOf.{judged-done}
+use Rattle.runs.proofs.MapRefused.{refused-number}
+use Rattle.runs.proofs.PairsGiven.{none-listed}
+use Rattle.runs.proofs.StepLaws.{verdict}
 use Rattle.runs.proofs.ClaimsJudged.{none-long, all-short, spans-holes, claim-rules}
 
 -- a refused outcome was judged so
@@ -41,9 +48,34 @@ passed : (b : Bool) (n k : ℕ) (v : Verdict) → (n ≡ k → ⊥) → unless b
 passed true n k v d h = (cc, h)
 passed false n k v d h = let e : n ≡ k = cc in absurd (d e)
 
--- a test's own refusal
-failed : (b : Bool) (n : ℕ) (e : Edit) → unless b n (judged.accepted e) ≡ judged.refused n → b ≡ true → ⊥
-failed b n e h t = let z : _≡_ {A = ℕ} 0 1 = cc in omega arith
+-- a test's own refusal, where none after it has its number
+failed : (b : Bool) (n : ℕ) (v : Verdict) → (v ≡ judged.refused n → ⊥) → unless b n v ≡ judged.refused n → b ≡ true → ⊥
+failed true n v d h t = d h
+failed false n v d h t = false≢true t
+
+accepted-not : (e : Edit) (n : ℕ) → judged.accepted e ≡ judged.refused n → ⊥
+accepted-not e n h = let z : _≡_ {A = ℕ} 0 1 = cc in omega arith
+
+-- 14, on any bytes: a map that is refused tells 1 to 7, and touching free fragments tell 9
+same-number : {a b x y : ℕ} → refused a x ≡ refused b y → a ≡ b
+same-number e = cc
+
+pub never-fourteen : (m : List ℕ) → Bytes m → (c : Call) (z : ℕ) → outcome m c ≡ refused 14 z → ⊥
+never-fourteen m bytes c z h = by-reading (mapRead m) refl h
+  where
+    by-pairs : (ess : List (List Entry)) → mapRead m ≡ entries ess → (o : Option ℕ) → touching 0 ess ≡ o → byTouching (geometryOf m) (discOf m ess) c o ≡ refused 14 z → ⊥
+    by-pairs ess a (some y) t h = omega (arith, same-number h)
+    by-pairs ess a none t h =
+        let l = (discOf m ess) .pieces in
+        onPieces.never-fourteen (geometryOf m) l c (map-geometry m ess bytes a) (map-disc m ess bytes a t .pieces .fit)
+        (judged-refused (geometryOf m) (discOf m ess) (judge (geometryOf m) l c) 14 z h)
+
+    by-reading : (r : MapRead) → mapRead m ≡ r → byRead m c r ≡ refused 14 z → ⊥
+    by-reading (read.refused n y) a h = omega (arith, refused-number m n y a, same-number h)
+    by-reading (entries ess) a h =
+        by-test (numberFits (geometryOf m) c)
+        (λ t. by-pairs ess a (touching 0 ess) refl (simp t at h))
+        (λ t. let k : refused 8 0 ≡ refused 14 z = simp t at h in omega (arith, same-number k))
 
 module _ (m : List ℕ) (ed : Editable m) where
   abbrev g : Geometry
@@ -64,29 +96,42 @@ module _ (m : List ℕ) (ed : Editable m) where
   told : (c : Call) (n z : ℕ) → outcome m c ≡ refused n z → judge (geometryOf m) (piecesOn (geometryOf m) m) c ≡ judged.refused n
   told c n z h = judged-refused (geometryOf m) (discOf m (zonesOf m)) (judge (geometryOf m) (piecesOn (geometryOf m) m) c) n z (sym (fate c) ∙ h)
 
-  pub never-fourteen : (c : Call) (z : ℕ) → outcome m c ≡ refused 14 z → ⊥
-  never-fourteen c z h = onPieces.never-fourteen g l c ok fit (told c 14 z h)
+  pub twelve-broke-rules : (id : ℕ) (list : List ℕ) → outcome m (place id list) ≡ refused 12 0 → ListRules (geometryOf m) id list → ⊥
+  twelve-broke-rules id list h r =
+      let h1 = passed (editable g id) 8 12 _ (λ e. omega arith) (told (place id list) 12 0 h) in
+      let h2 = passed (isEmpty (piecesOf id l)) 11 12 _ (λ e. omega arith) (h1 .1) in
+      let b = allApart g 0 (g .zones) (give id (pairsFrom list) l) in
+      let e = gives id (pairsFrom list) in
+      failed (listFits g id list) 12 (unless b 13 (judged.accepted e))
+      (λ k. accepted-not e 12 (passed b 13 12 (judged.accepted e) (λ e. omega arith) k .1))
+      (h2 .1) (rules-give-fits g ok id list r)
+
+  pub broken-rules : (id : ℕ) (list : List ℕ) → editable (geometryOf m) id ≡ true → listedOn m id ≡ [] → (ListRules (geometryOf m) id list → ⊥)
+      → outcome m (place id list) ≡ refused 12 0
+  broken-rules id list t n broken =
+      let e : isEmpty (piecesOf id l) ≡ true = ap isEmpty (none-listed g id l n) in
+      by-test (listFits g id list)
+      (λ f. absurd (broken (fits-gives-rules g ok id list f)))
+      (λ f. fate (place id list) ∙ simp (t, e, f) refl)
 
   pub placed-had-room : (id : ℕ) (list : List ℕ) (e : Edit) → Accepted m (place id list) e → RoomFor (geometryOf m) id list (piecesOn (geometryOf m) m)
   placed-had-room id list e a =
-      let h = judged-done m (zonesOf m) (ed .accepted) (ed .apart) (place id list) e (a .disc) (a .is) in
-      let h1 = unless-inv (editable g id) _ _ e h in
-      let h2 = unless-inv (isEmpty (piecesOf id l)) _ _ e (h1 .1) in
-      let h3 = unless-inv (listFits g id list) _ _ e (h2 .1) in
-      let h4 = unless-inv (allApart g 0 (g .zones) (give id (pairsFrom list) l)) _ _ e (h3 .1) in
-      thirteen g id list l ok fit (h3 .0) .0 (h4 .0)
+      let t = place-tests g l id list e (verdict m ed (place id list) e a) in
+      thirteen g id list l ok fit (t .2) .0 (t .3)
 
   pub thirteen-had-none : (id : ℕ) (list : List ℕ) → outcome m (place id list) ≡ refused 13 0 → RoomFor (geometryOf m) id list (piecesOn (geometryOf m) m) → ⊥
   thirteen-had-none id list h r =
       let h1 = passed (editable g id) 8 13 _ (λ e. omega arith) (told (place id list) 13 0 h) in
       let h2 = passed (isEmpty (piecesOf id l)) 11 13 _ (λ e. omega arith) (h1 .1) in
       let h3 = passed (listFits g id list) 12 13 _ (λ e. omega arith) (h2 .1) in
-      failed (allApart g 0 (g .zones) (give id (pairsFrom list) l)) 13 (gives id (pairsFrom list)) (h3 .1) (thirteen g id list l ok fit (h3 .0) .1 r)
+      let e = gives id (pairsFrom list) in
+      failed (allApart g 0 (g .zones) (give id (pairsFrom list) l)) 13 (judged.accepted e) (accepted-not e 13) (h3 .1) (thirteen g id list l ok fit (h3 .0) .1 r)
 
-  pub without-room : (id : ℕ) (list : List ℕ) → editable (geometryOf m) id ≡ true → piecesOf id (piecesOn (geometryOf m) m) ≡ [] → listFits (geometryOf m) id list ≡ true
+  pub without-room : (id : ℕ) (list : List ℕ) → editable (geometryOf m) id ≡ true → listedOn m id ≡ [] → ListRules (geometryOf m) id list
       → (RoomFor (geometryOf m) id list (piecesOn (geometryOf m) m) → ⊥) → outcome m (place id list) ≡ refused 13 0
-  without-room id list a b c full =
-      let e : isEmpty (piecesOf id l) ≡ true = ap isEmpty b in
+  without-room id list a b rules full =
+      let c = rules-give-fits g ok id list rules in
+      let e : isEmpty (piecesOf id l) ≡ true = ap isEmpty (none-listed g id l b) in
       by-test (allApart g 0 (g .zones) (give id (pairsFrom list) l))
       (λ t. absurd (full (thirteen g id list l ok fit c .0 t)))
       (λ t. fate (place id list) ∙ simp (a, e, c, t) refl)
@@ -101,8 +146,7 @@ module _ (m : List ℕ) (ed : Editable m) where
 
     pub claimed : (e : Edit) → Accepted m (claim size) e → (id : ℕ) × (q : Pair) × (e ≡ gives id (q ∷ [])) × ClaimRules m size id q
     claimed e a =
-        let h = judged-done m (zonesOf m) (ed .accepted) (ed .apart) (claim size) e (a .disc) (a .is) in
-        go unused refl found refl (unless-inv (ltb 0 size) 12 (claimIn unused found (g .shortest) (need g size)) e h .1)
+        go unused refl found refl (unless-inv (ltb 0 size) 12 (claimIn unused found (g .shortest) (need g size)) e (verdict m ed (claim size) e a) .1)
       where
         go : (i : Option ℕ) → unused ≡ i → (o : Option Pair) → found ≡ o → claimIn i o (g .shortest) (need g size) ≡ judged.accepted e
             → (id : ℕ) × (q : Pair) × (e ≡ gives id (q ∷ [])) × ClaimRules m size id q

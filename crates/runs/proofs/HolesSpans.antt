@@ -18,7 +18,7 @@ use Rattle.geometry.proofs.Numbers.{test-gives-accepted}
 use Rattle.model.specs.Chain.{Pair, Entry}
 use Rattle.model.specs.Pieces.{Piece, ownedOf, toDisc, pieceToDisc, piecesOfZones, freeOf, freeSpans}
 use Rattle.model.specs.Drawing.{gapEntry, drawnEntries}
-use Rattle.model.specs.Verdict.{entries, zonesRead, blocksOf, mapRead}
+use Rattle.model.specs.Check.{entries, zonesRead, blocksOf, mapRead}
 use Rattle.model.proofs.ChainDrawn.{Lies}
 use Rattle.model.proofs.ZoneTests.{zone-tests}
 use Rattle.calls.specs.Edits.{inZone}

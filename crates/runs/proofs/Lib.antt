@@ -24,10 +24,12 @@ pub mod ZonesTouched
 pub mod ZonesAfter
 pub mod BitsKept
 pub mod EditsOf
-pub mod EveryRun
 pub mod PairsGiven
 pub mod StepLaws
+pub mod EveryRun
 pub mod ClaimsJudged
+pub mod MapRefused
 pub mod EditsRefused
+pub mod EditsAccepted
 pub mod BlockPut
 pub mod WrittenBelow

@@ -21,8 +21,8 @@ use Rattle.geometry.proofs.Numbers.{test-gives-accepted}
 use Rattle.model.specs.Chain.{Entry, noneTouch}
 use Rattle.model.specs.Blocks.{flat}
 use Rattle.model.specs.Pieces.{piecesOfZones}
-use Rattle.model.specs.Verdict.{ZoneRead, fault, sound, MapRead, entries, joinZone, zoneRead, zonesRead, differing, crossSum, afterChecks, blocksRead, blocksOf, lengthFits, mapRead}
-use Rattle.model.specs.Verdict as read
+use Rattle.model.specs.Check.{ZoneRead, fault, sound, MapRead, entries, joinZone, zoneRead, zonesRead, differing, crossSum, afterChecks, blocksRead, blocksOf, lengthFits, mapRead}
+use Rattle.model.specs.Check as read
 use Rattle.model.proofs.Options.{none-some}
 use Rattle.runs.specs.Steps.{touching, discOf}
 use Rattle.runs.proofs.Slices.{Sized, EachBytes, flat-blocks, sized-blocks, length-blocks, each-bytes}

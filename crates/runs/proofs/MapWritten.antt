@@ -17,7 +17,7 @@ use Rattle.geometry.specs.Places.{firstBit, endBit}
 use Rattle.model.specs.Chain.{Entry, noneTouch}
 use Rattle.model.specs.Pieces.{Piece, pieceToDisc, piecesOfZones}
 use Rattle.model.specs.Drawing.{drawnEntries}
-use Rattle.model.specs.Verdict.{entries, joinZone, zonesRead, differing}
+use Rattle.model.specs.Check.{entries, joinZone, zonesRead, differing}
 use Rattle.model.proofs.ZoneDrawn.{owned-drawn}
 use Rattle.calls.specs.Edits.{inZone}
 use Rattle.calls.proofs.Kept.{all-kept}

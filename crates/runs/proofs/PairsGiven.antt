@@ -18,11 +18,11 @@ use Rattle.model.proofs.Options.{none-some, some-some}
 use Rattle.model.proofs.Lists.{length-numbers}
 use Rattle.calls.specs.Edits.{Disc, give, Edit, takes, gives}
 use Rattle.calls.specs.Holes.{holesFrom, allApart}
-use Rattle.calls.specs.Judge.{Call, release, place, claim, accepted, unless, isEmpty, editable, pairsFrom, pairsFit, listFits, need, firstHole, taken, lowest, claimIn, judge}
+use Rattle.calls.specs.Judge.{Call, release, place, claim, accepted, isEmpty, editable, pairsFrom, pairsFit, listFits, need, firstHole, taken, lowest, claimIn, judge}
 use Rattle.calls.proofs.Kept.{length-parts, some-length}
 use Rattle.calls.proofs.HolesLeft.{apart-all}
 use Rattle.calls.proofs.Undo.{read-back}
-use Rattle.calls.proofs.RunsKept.{unless-inv, lowest-lt, allowed}
+use Rattle.calls.proofs.RunsKept.{unless-inv, same-edit, lowest-lt, release-tests, place-tests, allowed}
 use Rattle.calls.proofs.Returned.{listed-fits, pairs-numbers}
 use Rattle.runs.proofs.PiecesKept.{AcceptedPieces, accepted-edit}
 
@@ -54,34 +54,24 @@ none-listed g id l e =
     no-length [] h = refl
     no-length (p ∷ ps) h = absurd (omega arith)
 
-taken-given : {id jd : ℕ} {ps qs : List Pair} → accepted (takes id ps) ≡ accepted (gives jd qs) → ⊥
+taken-given : {id jd : ℕ} {ps qs : List Pair} → takes id ps ≡ gives jd qs → ⊥
 taken-given h = let z : _≡_ {A = ℕ} 0 1 = cc in omega arith
 
-given-id : {id jd : ℕ} {ps qs : List Pair} → accepted (gives id ps) ≡ accepted (gives jd qs) → id ≡ jd
+given-id : {id jd : ℕ} {ps qs : List Pair} → gives id ps ≡ gives jd qs → id ≡ jd
 given-id h = cc
 
-given-pairs : {id jd : ℕ} {ps qs : List Pair} → accepted (gives id ps) ≡ accepted (gives jd qs) → ps ≡ qs
+given-pairs : {id jd : ℕ} {ps qs : List Pair} → gives id ps ≡ gives jd qs → ps ≡ qs
 given-pairs h = cc
 
 pub given-facts : (g : Geometry) (l : List Piece) (c : Call) (id : ℕ) (qs : List Pair) → judge g l c ≡ accepted (gives id qs) → GivenFacts g (gives id qs) id qs
-given-facts g l (release jd room) id qs h =
-    let ps = objectPairs g jd l in
-    let e = gives id qs in
-    let a = unless-inv (editable g jd) 8 (unless (not (isEmpty (piecesOf jd l))) 10 (unless (leb (2 * length ps) room) 17 (accepted (takes jd ps)))) e h in
-    let b = unless-inv (not (isEmpty (piecesOf jd l))) 10 (unless (leb (2 * length ps) room) 17 (accepted (takes jd ps))) e (a .1) in
-    let c = unless-inv (leb (2 * length ps) room) 17 (accepted (takes jd ps)) e (b .1) in
-    absurd (taken-given (c .1))
+given-facts g l (release jd room) id qs h = absurd (taken-given (release-tests g l jd room (gives id qs) h .3))
 given-facts g l (place jd list) id qs h =
-    let e = gives id qs in
-    let a = unless-inv (editable g jd) 8 _ e h in
-    let b = unless-inv (isEmpty (piecesOf jd l)) 11 _ e (a .1) in
-    let c = unless-inv (listFits g jd list) 12 _ e (b .1) in
-    let d = unless-inv (allApart g 0 (g .zones) (give jd (pairsFrom list) l)) 13 (accepted (gives jd (pairsFrom list))) e (c .1) in
-    let f = both (ltb 0 (length list) && eqb (length list % 2) 0) (pairsFit g jd 0 (pairsFrom list)) (c .0) in
+    let t = place-tests g l jd list (gives id qs) h in
+    let f = both (ltb 0 (length list) && eqb (length list % 2) 0) (pairsFit g jd 0 (pairsFrom list)) (t .2) in
     let k = both (ltb 0 (length list)) (eqb (length list % 2) 0) (f .0) in
     record {
-      ordinary = subst (λ (x : ℕ). editable g x ≡ true) (given-id (d .1)) (a .0);
-      some-pairs = λ n. pairs-some list (ltb-true 0 (length list) (k .0)) (eqb-true (length list % 2) 0 (k .1)) (given-pairs (d .1) ∙ n);
+      ordinary = subst (λ (x : ℕ). editable g x ≡ true) (given-id (t .4)) (t .0);
+      some-pairs = λ n. pairs-some list (ltb-true 0 (length list) (k .0)) (eqb-true (length list % 2) 0 (k .1)) (given-pairs (t .4) ∙ n);
     }
 given-facts g l (claim size) id qs h =
     let a = unless-inv (ltb 0 size) 12 (claimIn (lowest l (g .ids * g .zones - 3) 3) (firstHole (need g size) (holesFrom g 0 (g .zones) l)) (g .shortest) (need g size)) (gives id qs) h in
@@ -92,9 +82,9 @@ given-facts g l (claim size) id qs h =
     go (some jd) i none q = let z : _≡_ {A = ℕ} 0 1 = cc in absurd (omega arith)
     go (some jd) i (some t) q =
         record {
-          ordinary = subst (λ (x : ℕ). editable g x ≡ true) (given-id q)
+          ordinary = subst (λ (x : ℕ). editable g x ≡ true) (given-id (same-edit q))
               (and-true (leb 3 jd) (ltb jd (g .ids * g .zones)) (le-leb 3 jd (lowest-least l (g .ids * g .zones - 3) 3 jd i)) (lt-ltb jd (g .ids * g .zones) (omega (arith, lowest-lt l (g .ids * g .zones - 3) 3 jd i))));
-          some-pairs = λ n. let e : taken (g .shortest) (need g size) t ∷ [] ≡ [] = given-pairs q ∙ n in let z : _≡_ {A = ℕ} 0 1 = cc in omega arith;
+          some-pairs = λ n. let e : taken (g .shortest) (need g size) t ∷ [] ≡ [] = given-pairs (same-edit q) ∙ n in let z : _≡_ {A = ℕ} 0 1 = cc in omega arith;
         }
 
 -- a place of the same pairs

@@ -20,8 +20,8 @@ use Rattle.model.proofs.Options.{none-some, some-some}
 use Rattle.calls.specs.Order.{Ascending}
 use Rattle.calls.specs.Edits.{Disc, notOf, without, insert, put, own, give, inZone, Edit, takes, gives, edit}
 use Rattle.calls.specs.Holes.{apart, holesFrom, allApart}
-use Rattle.calls.specs.Judge.{Call, release, place, claim, Verdict, refused, accepted, unless, isEmpty, editable, pairsFrom, pairsFit, listFits, need, firstHole, taken, lowest, claimIn, judge, obey}
-use Rattle.calls.specs.Runs.{after}
+use Rattle.calls.specs.Judge.{Call, release, place, claim, Verdict, refused, accepted, unless, isEmpty, editable, pairsFrom, pairsFit, listFits, need, firstHole, taken, lowest, claimIn, judge}
+use Rattle.calls.proofs.PieceRuns.{obey, after}
 use Rattle.calls.proofs.Kept.{All, all-keep, all-put, keep-comm}
 use Rattle.calls.proofs.ByPlace.{keep-insert-no}
 use Rattle.calls.proofs.PutIn.{asc-insert, keep-insert}

@@ -16,7 +16,7 @@ use Rattle.model.specs.Fragments.{Fragment, Formed}
 use Rattle.model.specs.Chain.{Entry}
 use Rattle.model.specs.Pieces.{Piece, pieceToDisc}
 use Rattle.model.specs.Drawing.{gap, drawnFragments, gapEntry, drawnEntries}
-use Rattle.model.specs.Verdict.{every, inClusters, idFits, endFits, firstOwned}
+use Rattle.model.specs.Check.{every, inClusters, idFits, endFits, firstOwned}
 use Rattle.model.proofs.ChainDrawn.{Lies}
 use Rattle.calls.specs.Holes.{gapFits, apart}
 use Rattle.calls.proofs.Kept.{All}

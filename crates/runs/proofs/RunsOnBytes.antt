@@ -1,7 +1,7 @@
 -- Runs of calls on the bytes of an accepted map in which no two free fragments touch (demand 3). After every run the map is
 -- what is written from the pieces and cross checks that the run leaves, and is accepted again with these; a run undone last
 -- first leaves every byte as it was.
-use mathlib.Core.Path.{_≡_, sym, ap, _∙_, subst, subst⁻¹}
+use mathlib.Core.Path.{_≡_, sym, ap, ap₂, _∙_, subst, subst⁻¹}
 use mathlib.Core.List.{List, [], _∷_}
 use mathlib.Core.Option.{none}
 use Prim.Native.Nat.{ℕ}
@@ -11,15 +11,18 @@ use Rattle.geometry.specs.declared.Geometry.{Geometry}
 use Rattle.geometry.specs.Record.{geometryOf}
 use Rattle.model.specs.Chain.{Entry}
 use Rattle.model.specs.Blocks.{flat}
-use Rattle.model.specs.Verdict.{entries, blocksOf, mapRead}
+use Rattle.model.specs.Check.{entries, blocksOf, mapRead}
+use Rattle.model.specs.Pieces.{Piece, piecesOfZones, objectPairs}
 use Rattle.calls.specs.Edits.{Disc, Edit, edit}
 use Rattle.calls.specs.Judge.{Call, judge}
 use Rattle.calls.specs.Judge as judged
-use Rattle.calls.specs.Runs.{after, run, edits, Undone, crossRun}
+use Rattle.calls.specs.Runs.{Undone, crossRun}
+use Rattle.calls.proofs.PieceRuns.{after, run, edits}
 use Rattle.calls.proofs.RunsKept.{allowed, run-undone, run-same}
 use Rattle.calls.proofs.ReadsAfter.{ListedAfter, listed-after}
 use Rattle.runs.specs.Written.{rewritten}
 use Rattle.runs.specs.Steps.{touching, discOf, refused, done, byVerdict, outcome, bytesAfter, step, steps}
+use Rattle.runs.specs.Editable.{zonesIn, zonesOf, Editable, listedOn}
 use Rattle.runs.proofs.MapWritten.{drawnZones, none-touching}
 use Rattle.runs.proofs.DiscKept.{disc-run}
 use Rattle.runs.proofs.StepWritten.{outcome-judged, writtenMap, length-new-map, geometry-new, bytes-new, read-new, disc-new, steps-new}
@@ -34,6 +37,20 @@ pub reads-same : (g : Geometry) (s : Disc) (m : List ℕ) (ess : List (List Entr
 reads-same g s m ess r e =
     let same : r .0 ≡ ess = entries-entries (sym (r .1) ∙ e) in
     subst (λ (x : List (List Entry)). (touching 0 x ≡ none) × (discOf m x ≡ s)) same (r .2, r .3)
+
+-- a map that reads as a disc: what its objects list, and that it may be edited
+reads-zones : (g : Geometry) (s : Disc) (m : List ℕ) (r : ReadsAs g s m) → zonesOf m ≡ r .0
+reads-zones g s m r = ap zonesIn (r .1)
+
+pub reads-listed : (g : Geometry) (s : Disc) (m : List ℕ) → ReadsAs g s m → (id : ℕ) → listedOn m id ≡ objectPairs g id (s .pieces)
+reads-listed g s m r id =
+    ap (λ (x : List (List Entry)). objectPairs (geometryOf m) id (piecesOfZones (geometryOf m) 0 x)) (reads-zones g s m r)
+    ∙ ap₂ (λ (x : Geometry) (l : List Piece). objectPairs x id l) (r .4) (ap (λ (d : Disc). d .pieces) (r .3))
+
+pub reads-editable : (g : Geometry) (s : Disc) (m : List ℕ) → ReadsAs g s m → Bytes m → Editable m
+reads-editable g s m r b =
+    let e = reads-zones g s m r in
+    record { bytes = b; accepted = r .1 ∙ ap entries (sym e); apart = ap (touching 0) e ∙ r .2 }
 
 module _ (m : List ℕ) (ess : List (List Entry)) (bytes : Bytes m) (accepted : mapRead m ≡ entries ess) (apart : touching 0 ess ≡ none) where
   -- after every run the map is the old one written from the pieces and cross checks that the run leaves

@@ -1,35 +1,34 @@
--- Demand 2's and demand 3's statements on single steps: what an accepted call leaves, and that an undo at once is accepted and
--- restores every byte.
+-- Demand 2's and demand 3's statements on single steps: what an accepted call leaves, that a release with room is accepted, and that an
+-- undo at once is accepted and restores every byte. Each goes from the bytes to the verdict on their pieces and back.
 use mathlib.Core.Path.{_≡_, sym, ap, ap₂, _∙_, subst⁻¹}
-use mathlib.Core.Bool.{not, false≢true}
+use mathlib.Core.Bool.{true, not, false≢true}
 use mathlib.Core.List.{List, [], _∷_}
 use Prim.Native.Nat.{ℕ, _*_, _≤_}
-use lib.Dec.{leb}
 use lib.ListN.{length}
 use Rattle.geometry.specs.declared.Geometry.{Geometry}
 use Rattle.geometry.specs.Record.{geometryOf}
 use Rattle.geometry.specs.Accepted.{AcceptedGeometry}
 use Rattle.model.specs.Chain.{Pair, numbersOf}
-use Rattle.model.specs.Pieces.{Piece, piecesOf, objectPairs}
+use Rattle.model.specs.Pieces.{Piece, objectPairs}
 use Rattle.calls.specs.Edits.{Disc, without, Edit, takes, gives, edit, editId}
-use Rattle.calls.specs.Judge.{Call, release, place, claim, Verdict, unless, isEmpty, editable, judge, obey}
+use Rattle.calls.specs.Judge.{Call, release, place, claim, Verdict, isEmpty, editable, judge}
 use Rattle.calls.specs.Judge as judged
-use Rattle.calls.specs.Runs.{edits, Undone, nothing, strike, released, restored}
-use Rattle.calls.specs.Runs as onPieces
-use Rattle.calls.proofs.RunsKept.{unless-inv, allowed}
+use Rattle.calls.specs.Runs.{Undone, nothing, strike, released, restored}
+use Rattle.calls.proofs.PieceRuns.{obey, edits}
+use Rattle.calls.proofs.PieceRuns as onPieces
+use Rattle.calls.proofs.RunsKept.{release-tests, allowed}
 use Rattle.calls.proofs.ReadsAfter.{ListedAfter, listed-after}
-use Rattle.calls.proofs.Returned.{place-back, release-back}
+use Rattle.calls.proofs.Returned.{place-back, release-listed, release-back}
 use Rattle.runs.specs.Steps.{refused, byVerdict, discOf, outcome, bytesAfter, step, steps}
 use Rattle.runs.specs.Editable.{zonesOf, Editable, listedOn, NamedMoved, ReadsAfter}
 use Rattle.runs.specs.Demand3.{Accepted}
 use Rattle.runs.proofs.PiecesKept.{AcceptedPieces}
 use Rattle.runs.proofs.StepWritten.{outcome-judged}
 use Rattle.runs.proofs.MapAccepted.{map-geometry, map-disc}
-use Rattle.runs.proofs.RunsOnBytes.{ReadsAs, undone-bytes, step-accepted, bytes-kept}
+use Rattle.runs.proofs.RunsOnBytes.{ReadsAs, reads-listed, reads-editable, undone-bytes, step-accepted, bytes-kept}
 use Rattle.runs.proofs.ZonesAfter.{zone-untouched}
 use Rattle.runs.proofs.BitsKept.{outside-kept}
 use Rattle.runs.proofs.EditsOf.{judged-done}
-use Rattle.runs.proofs.EveryRun.{reads-listed, reads-editable}
 use Rattle.runs.proofs.PairsGiven.{none-listed, given-facts, given-placed}
 
 pub refused-keeps : (m : List ℕ) (c : Call) (n z : ℕ) → outcome m c ≡ refused n z → step m c ≡ m
@@ -60,8 +59,11 @@ module _ (m : List ℕ) (ed : Editable m) where
   pieces-ok : AcceptedPieces (geometryOf m) ((discOf m (zonesOf m)) .pieces)
   pieces-ok = map-disc m (zonesOf m) (ed .bytes) (ed .accepted) (ed .apart) .pieces
 
-  verdict : (c : Call) (e : Edit) → Accepted m c e → judge (geometryOf m) ((discOf m (zonesOf m)) .pieces) c ≡ judged.accepted e
+  pub verdict : (c : Call) (e : Edit) → Accepted m c e → judge (geometryOf m) ((discOf m (zonesOf m)) .pieces) c ≡ judged.accepted e
   verdict c e a = judged-done m (zonesOf m) (ed .accepted) (ed .apart) c e (a .disc) (a .is)
+
+  pub accept : (c : Call) (e : Edit) → judge (geometryOf m) ((discOf m (zonesOf m)) .pieces) c ≡ judged.accepted e → Accepted m c e
+  accept c e h = record { disc = edit g e s; is = step-accepted m (zonesOf m) (ed .bytes) (ed .accepted) (ed .apart) c e h .0 }
 
   after-reads : (c : Call) (e : Edit) → Accepted m c e → ReadsAs (geometryOf m) (edit (geometryOf m) e (discOf m (zonesOf m))) (step m c)
   after-reads c e a = step-accepted m (zonesOf m) (ed .bytes) (ed .accepted) (ed .apart) c e (verdict c e a) .2
@@ -97,21 +99,23 @@ module _ (m : List ℕ) (ed : Editable m) where
       rest (takes id qs) w j n = w .2 j n
       rest (gives id qs) w j n = w .2 j n
 
+  pub release-accepted : (id room : ℕ) → editable (geometryOf m) id ≡ true → (listedOn m id ≡ [] → ⊥) → 2 * length (listedOn m id) ≤ room
+      → Accepted m (release id room) (takes id (listedOn m id))
+  release-accepted id room t n r = accept (release id room) (takes id (listedOn m id)) (release-listed (geometryOf m) id room (s .pieces) t n r)
+
   pub release-place : (id room : ℕ) (qs : List Pair) → Accepted m (release id room) (takes id qs)
       → Accepted (step m (release id room)) (place id (numbersOf qs)) (gives id qs) × (steps m (release id room ∷ place id (numbersOf qs) ∷ []) ≡ m)
   release-place id room qs a =
       let P = s .pieces in
-      let ps = objectPairs (geometryOf m) id P in
       let c = release id room in
       let e = takes id qs in
       let h = verdict c e a in
-      let q : qs ≡ ps = allowed (geometryOf m) P c e ok (pieces-ok .fit) h .0 in
-      let x = unless-inv (editable (geometryOf m) id) 8 (unless (not (isEmpty (piecesOf id P))) 10 (unless (leb (2 * length ps) room) 17 (judged.accepted (takes id ps)))) e h in
-      let y = unless-inv (not (isEmpty (piecesOf id P))) 10 (unless (leb (2 * length ps) room) 17 (judged.accepted (takes id ps))) e (x .1) in
+      let q : qs ≡ objectPairs (geometryOf m) id P = allowed (geometryOf m) P c e ok (pieces-ok .fit) h .0 in
+      let t = release-tests (geometryOf m) P id room e h in
       let k : judge (geometryOf m) (without id P) (place id (numbersOf qs)) ≡ judged.accepted (gives id qs) =
       subst⁻¹ (λ (r : List Pair). judge (geometryOf m) (without id P) (place id (numbersOf r)) ≡ judged.accepted (gives id r)) q
-      (place-back (geometryOf m) ok id P (pieces-ok .fit) (pieces-ok .clusters) (x .0)
-      (λ n. false≢true (sym (ap (λ (r : List Piece). not (isEmpty r)) (none-listed (geometryOf m) id P n)) ∙ y .0))) in (
+      (place-back (geometryOf m) ok id P (pieces-ok .fit) (pieces-ok .clusters) (t .0)
+      (λ n. false≢true (sym (ap (λ (r : List Piece). not (isEmpty r)) (none-listed (geometryOf m) id P n)) ∙ t .1))) in (
         reads-outcome (geometryOf m) (edit (geometryOf m) e s) (step m c) (after-reads c e a) (place id (numbersOf qs)) (gives id qs) k,
         undo c (place id (numbersOf qs)) e (gives id qs) h k (strike [] [] (restored id qs) nothing),
       )
@@ -135,4 +139,4 @@ module _ (m : List ℕ) (ed : Editable m) where
       let k = given-placed (geometryOf m) ok s pieces-ok (claim size) id qs h in
       let x = step-accepted m (zonesOf m) (ed .bytes) (ed .accepted) (ed .apart) (place id (numbersOf qs)) (gives id qs) k in
       let y = step-accepted m (zonesOf m) (ed .bytes) (ed .accepted) (ed .apart) (claim size) (gives id qs) h in
-      (record { disc = edit g (gives id qs) s; is = x .0 }, x .1 ∙ sym (y .1))
+      (accept (place id (numbersOf qs)) (gives id qs) k, x .1 ∙ sym (y .1))

@@ -20,12 +20,12 @@ use Rattle.geometry.specs.Places.{firstBit, endBit}
 use Rattle.model.specs.Chain.{Entry}
 use Rattle.model.specs.Blocks.{blocks, flat, blockAt}
 use Rattle.model.specs.Pieces.{piecesOfZones}
-use Rattle.model.specs.Verdict.{MapRead, entries, blocksRead, blocksOf, lengthFits, mapRead}
-use Rattle.model.specs.Verdict as read
+use Rattle.model.specs.Check.{MapRead, entries, blocksRead, blocksOf, lengthFits, mapRead}
+use Rattle.model.specs.Check as read
 use Rattle.calls.specs.Edits.{Disc, inZone, edit}
-use Rattle.calls.specs.Judge.{Call, Verdict, unless, numberFits, judgeRest, judge, obey}
+use Rattle.calls.specs.Judge.{Call, Verdict, unless, numberFits, judgeRest, judge}
 use Rattle.calls.specs.Judge as judged
-use Rattle.calls.specs.Runs.{after, run}
+use Rattle.calls.proofs.PieceRuns.{obey, after, run}
 use Rattle.runs.specs.Written.{written, toBlock, rewritten}
 use Rattle.runs.specs.Steps.{touching, discOf, refused, byVerdict, byTouching, byRead, outcome, bytesAfter, step, steps}
 use Rattle.runs.proofs.Slices.{Sized, flat-blocks, blocks-flat, sized-blocks, length-blocks, length-flat, block-of-flat, block-of-slice}

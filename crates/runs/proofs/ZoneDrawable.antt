@@ -13,7 +13,7 @@ use Rattle.geometry.specs.declared.Geometry.{Geometry}
 use Rattle.geometry.specs.Accepted.{AcceptedGeometry}
 use Rattle.geometry.specs.Places.{firstBit, endBit, zoneFrom, zoneEnd}
 use Rattle.model.specs.Pieces.{Piece}
-use Rattle.model.specs.Drawing.{Hole, Drawable}
+use Rattle.model.specs.Drawing.{GapRoom, Drawable}
 use Rattle.calls.specs.Edits.{inZone}
 use Rattle.calls.specs.Holes.{gapFits, apart}
 use Rattle.calls.proofs.Kept.{All, all-keep}
@@ -22,7 +22,7 @@ use Rattle.calls.proofs.Invariant.{FitPieces}
 use Rattle.runs.specs.Written.{toBlock}
 use Rattle.runs.proofs.ZonePlaces.{zone-from, zone-end}
 
-gap-hole : (n m zZ a b a2 : ℕ) → n < m → a + 512 ≡ zZ + a2 → Gap m a b → Hole n a2 (b + 512 - zZ)
+gap-hole : (n m zZ a b a2 : ℕ) → n < m → a + 512 ≡ zZ + a2 → Gap m a b → GapRoom n a2 (b + 512 - zZ)
 gap-hole n m zZ a b a2 h k (inl e) = inl (omega arith)
 gap-hole n m zZ a b a2 h k (inr e) = inr (omega arith)
 
@@ -30,7 +30,7 @@ gap-hole n m zZ a b a2 h k (inr e) = inr (omega arith)
 drawable : (g : Geometry) (z n m a e a2 e2 : ℕ) (l : List Piece) → n < m → All (isLong m) l → All (λ p. ltb (p .owner) (2 ^ n)) l
     → a + 512 ≡ z * g .bits + a2 → e + 512 ≡ z * g .bits + e2 → apart m a e l ≡ true → Drawable n a2 e2 (map (toBlock g z) l)
 drawable g z n m a e a2 e2 [] h w o p q t =
-    subst (λ (x : ℕ). Hole n a2 x) (omega arith) (gap-hole n m (z * g .bits) a e a2 h p (gap-of-test m a e t))
+    subst (λ (x : ℕ). GapRoom n a2 x) (omega arith) (gap-hole n m (z * g .bits) a e a2 h p (gap-of-test m a e t))
 drawable g z n m a e a2 e2 (x ∷ xs) h w o p q t =
     let b = both (gapFits m a (x .at .start)) (apart m (x .at .start + x .at .len) e xs) t in
     let k = gap-of-test m a (x .at .start) (b .0) in

@@ -19,7 +19,7 @@ use Rattle.model.specs.Chain.{Entry, onward, follow, noneTouch}
 use Rattle.model.specs.Blocks.{linkIn, allocBits}
 use Rattle.model.specs.Pieces.{ownedOf, pieceToDisc}
 use Rattle.model.specs.Drawing.{drawnFragments, drawnEntries, followAll}
-use Rattle.model.specs.Verdict.{sound, every, inClusters, idFits, endFits, firstOwned, ownersFit, zoneRead}
+use Rattle.model.specs.Check.{sound, every, inClusters, idFits, endFits, firstOwned, ownersFit, zoneRead}
 use Rattle.model.proofs.Options.{some-some}
 use Rattle.model.proofs.FragmentsRead.{written-cut}
 use Rattle.model.proofs.Followed.{total}

@@ -19,7 +19,7 @@ use Rattle.model.specs.Chain.{Entry, onward, follow}
 use Rattle.model.specs.Blocks.{freeLink}
 use Rattle.model.specs.Pieces.{Piece}
 use Rattle.model.specs.Drawing.{firstFree, drawnFragments, linkOf, gapEntry, drawnEntries}
-use Rattle.model.specs.Verdict.{sound, every, inClusters, idFits, endFits, firstOwned, ownersFit, afterCut, zoneRead}
+use Rattle.model.specs.Check.{sound, every, inClusters, idFits, endFits, firstOwned, ownersFit, afterCut, zoneRead}
 use Rattle.model.proofs.ChainDrawn.{Lies, linked, free-or-ahead, follow-drawn}
 use Rattle.model.proofs.ZoneDrawn.{lies}
 use Rattle.calls.specs.Edits.{inZone}

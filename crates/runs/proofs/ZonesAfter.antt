@@ -18,11 +18,11 @@ use Rattle.model.specs.Chain.{Pair, Entry}
 use Rattle.model.specs.Blocks.{blockAt}
 use Rattle.model.specs.Pieces.{Piece, ownedOf, pieceToDisc}
 use Rattle.model.specs.Drawing.{Drawable}
-use Rattle.model.specs.Verdict.{entries, blocksOf, mapRead}
+use Rattle.model.specs.Check.{entries, blocksOf, mapRead}
 use Rattle.calls.specs.Edits.{Disc, without, put, own, give, touches, crossed, Edit, takes, gives, pairsIn, edit, inZone}
-use Rattle.calls.specs.Judge.{Call, Verdict, judge, obey}
+use Rattle.calls.specs.Judge.{Call, Verdict, judge}
 use Rattle.calls.specs.Judge as judged
-use Rattle.calls.specs.Runs.{run}
+use Rattle.calls.proofs.PieceRuns.{obey, run}
 use Rattle.calls.proofs.Kept.{all-kept}
 use Rattle.calls.proofs.Invariant.{fit-without}
 use Rattle.calls.proofs.RunsKept.{allowed}

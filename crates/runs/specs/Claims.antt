@@ -2,7 +2,7 @@
 use mathlib.Core.Path.{_≡_}
 use mathlib.Core.List.{List, []}
 use mathlib.Core.Logic.{_⊎_}
-use Prim.Native.Nat.{ℕ, _+_, _<_, _≤_}
+use Prim.Native.Nat.{ℕ, _+_, _*_, _<_, _≤_}
 use Rattle.geometry.specs.Record.{geometryOf}
 use Rattle.model.specs.Chain.{Pair}
 use Rattle.model.specs.Pieces.{freeSpans}
@@ -16,8 +16,9 @@ spansOn m = freeSpans (geometryOf m) 0 (zonesOf m)
 
 -- a claim of so many bytes gives the pair q to an id
 pub record ClaimRules (m : List ℕ) (size id : ℕ) (q : Pair) : Type 0 where
-  -- "The id is the lowest unused one from 3."
+  -- "The id is the lowest unused one from 3." An id lies below P*nzones.
   pub from-3 : 3 ≤ id
+  pub below : id < (geometryOf m) .ids * (geometryOf m) .zones
   pub unused : listedOn m id ≡ []
   pub lowest : (j : ℕ) → 3 ≤ j → j < id → listedOn m j ≡ [] → ⊥
   -- "Zones from 0, holes ascending: the first hole of length at least need."

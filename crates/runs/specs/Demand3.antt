@@ -1,7 +1,8 @@
 -- Demand 3, for every map that edits work on: each step, each undo, and every run of claims, places and releases, refused ones
 -- included. Assumes nothing.
 use mathlib.Core.Path.{_≡_}
-use mathlib.Core.List.{List, [], _∷_, map}
+use mathlib.Core.Bool.{true}
+use mathlib.Core.List.{List, [], _∷_, _++_, map}
 use Prim.Native.Nat.{ℕ, _*_, _%_, _<_, _≤_}
 use lib.ListN.{length, getD}
 use Rattle.checks.specs.Cross.{crossOf}
@@ -9,9 +10,9 @@ use Rattle.geometry.specs.declared.Geometry.{Geometry}
 use Rattle.geometry.specs.Record.{geometryOf}
 use Rattle.model.specs.Chain.{Pair, numbersOf}
 use Rattle.model.specs.Rules.{CheckRule, zoneBlock}
-use Rattle.model.specs.Verdict.{blocksOf}
-use Rattle.calls.specs.Edits.{Disc, Edit, takes, gives, pairsIn}
-use Rattle.calls.specs.Judge.{Call, release, place, claim}
+use Rattle.model.specs.Check.{blocksOf}
+use Rattle.calls.specs.Edits.{Disc, Edit, takes, gives}
+use Rattle.calls.specs.Judge.{Call, release, place, claim, editable}
 use Rattle.calls.specs.Runs.{Undone, crossRun}
 use Rattle.runs.specs.Steps.{Outcome, refused, done, outcome, step, steps}
 use Rattle.runs.specs.Editable.{Editable, listedOn, ReadsAfter}
@@ -40,10 +41,13 @@ abbrev pub SameLists : List ℕ → List ℕ → Type 0
 SameLists m n = (id : ℕ) → listedOn n id ≡ listedOn m id
 
 -- one run, whole
-pub record RunClaims (m : List ℕ) (cs : List Call) : Type 0 where
+pub record RunLaws (m : List ℕ) (cs : List Call) : Type 0 where
   -- the map may be edited again, on the same disc
   pub again : Editable (steps m cs)
   pub same-disc : geometryOf (steps m cs) ≡ geometryOf m
+  -- "the same reading after each step": each accepted call of the run, on the map that the calls before it leave
+  pub each-step : (before : List Call) (c : Call) (rest : List Call) (e : Edit) → cs ≡ before ++ c ∷ rest → Accepted (steps m before) c e
+      → ReadsAfter (steps m before) e (steps m (before ++ c ∷ []))
   -- "If after the run each object has its starting pieces, and no object is there that wasn't at the start, the map equals the
   -- starting one except perhaps in zone check and cross check bytes."
   pub same-pieces : SameLists m (steps m cs) → SameButChecks (geometryOf m) m (steps m cs)
@@ -53,8 +57,7 @@ pub record RunClaims (m : List ℕ) (cs : List Call) : Type 0 where
   -- call, and each zone check is that of its block."
   pub cross-checks : map crossOf (blocksOf (geometryOf m) (steps m cs)) ≡ crossRun (geometryOf m) (editsOf m cs) (map crossOf (blocksOf (geometryOf m) m))
   pub zone-checks : (z : ℕ) → z < (geometryOf m) .zones → CheckRule (zoneBlock (geometryOf m) (steps m cs) z)
-  -- stronger than asked: where the pieces are as at the start, the check bytes are too. Every byte after a run is a function of
-  -- the starting map and the present pieces.
+  -- stronger than asked: where the pieces are as at the start, the check bytes are too
   pub same-bytes : SameLists m (steps m cs) → steps m cs ≡ m
 
 pub record Demand3 : Type 0 where
@@ -62,7 +65,9 @@ pub record Demand3 : Type 0 where
   pub reads-after : (m : List ℕ) → Editable m → (c : Call) (e : Edit) → Accepted m c e → ReadsAfter m e (step m c)
   pub refused-keeps : (m : List ℕ) (c : Call) (n z : ℕ) → outcome m c ≡ refused n z → step m c ≡ m
   -- "Release an ordinary object, with room for its list, and at once place the returned list under its number: both are accepted and
-  -- every byte is as before"
+  -- every byte is as before, check bytes too." The release of an object that is there is accepted, and then the place is.
+  pub release-accepted : (m : List ℕ) → Editable m → (id room : ℕ) → editable (geometryOf m) id ≡ true → (listedOn m id ≡ [] → ⊥) → 2 * length (listedOn m id) ≤ room
+      → Accepted m (release id room) (takes id (listedOn m id))
   pub release-place : (m : List ℕ) → Editable m → (id room : ℕ) (qs : List Pair) → Accepted m (release id room) (takes id qs)
       → Accepted (step m (release id room)) (place id (numbersOf qs)) (gives id qs) × (steps m (release id room ∷ place id (numbersOf qs) ∷ []) ≡ m)
   -- "An accepted place or claim followed at once by its release, again with room, does the same."
@@ -72,4 +77,7 @@ pub record Demand3 : Type 0 where
   pub claim-places : (m : List ℕ) → Editable m → (size id : ℕ) (qs : List Pair) → Accepted m (claim size) (gives id qs)
       → Accepted m (place id (numbersOf qs)) (gives id qs) × (step m (place id (numbersOf qs)) ≡ step m (claim size))
   -- every run
-  pub every-run : (m : List ℕ) → Editable m → (cs : List Call) → RunClaims m cs
+  pub every-run : (m : List ℕ) → Editable m → (cs : List Call) → RunLaws m cs
+  -- stronger than asked: every byte after a run is a function of the starting map and the present pieces. Two runs from one map that leave
+  -- every object the same list leave the same bytes, whatever their calls; `same-bytes` is the case of a run of no calls.
+  pub same-lists-same-bytes : (m : List ℕ) → Editable m → (cs ds : List Call) → SameLists (steps m cs) (steps m ds) → steps m cs ≡ steps m ds

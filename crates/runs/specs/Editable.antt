@@ -12,7 +12,7 @@ use Rattle.geometry.specs.Record.{geometryOf}
 use Rattle.geometry.specs.Places.{firstBit, endBit}
 use Rattle.model.specs.Chain.{Pair, Entry}
 use Rattle.model.specs.Rules.{zoneBlock}
-use Rattle.model.specs.Verdict.{MapRead, refused, entries, mapRead}
+use Rattle.model.specs.Check.{MapRead, refused, entries, mapRead}
 use Rattle.model.specs.Pieces.{piecesOfZones, objectPairs, Piece}
 use Rattle.calls.specs.Edits.{Edit, takes, gives, pairsIn, editId, touches}
 use Rattle.runs.specs.Steps.{touching}

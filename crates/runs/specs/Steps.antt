@@ -1,6 +1,6 @@
 -- The calls that edit, on the bytes of a map (document 01, "The calls", "Numbered refusals"): each checks the map as it finds
 -- it, is refused with a number and a zone or makes its edit, and leaves these bytes. Assumes nothing.
-use mathlib.Core.Bool.{Bool, true, false, cond}
+use mathlib.Core.Bool.{false, cond}
 use mathlib.Core.List.{List, [], _∷_, map}
 use mathlib.Core.Option.{Option, none, some}
 use Prim.Native.Nat.{ℕ, suc}
@@ -9,9 +9,9 @@ use Rattle.geometry.specs.declared.Geometry.{Geometry}
 use Rattle.geometry.specs.Record.{geometryOf}
 use Rattle.model.specs.Chain.{Entry, noneTouch}
 use Rattle.model.specs.Blocks.{flat}
-use Rattle.model.specs.Verdict.{MapRead, entries, mapRead, blocksOf}
-use Rattle.model.specs.Verdict as read
-use Rattle.model.specs.Pieces.{Piece, piecesOfZones}
+use Rattle.model.specs.Check.{MapRead, entries, mapRead, blocksOf}
+use Rattle.model.specs.Check as read
+use Rattle.model.specs.Pieces.{piecesOfZones}
 use Rattle.calls.specs.Edits.{Disc, Edit, edit}
 use Rattle.calls.specs.Judge.{Call, Verdict, numberFits, judge}
 use Rattle.calls.specs.Judge as judged

@@ -3,13 +3,12 @@
 -- and allocation bits": every other bit is the old block's. Assumes nothing.
 use mathlib.Core.Bool.{Bool}
 use mathlib.Core.List.{List, [], _∷_, _++_, map}
-use Prim.Native.Nat.{ℕ, suc, _+_, _-_, _*_, _/_, _%_}
+use Prim.Native.Nat.{ℕ, suc, _+_, _-_, _/_, _%_}
 use lib.ListN.{length, take, drop}
 use Rattle.bits.specs.Bits.{byteBits, bytesOf}
 use Rattle.checks.specs.Words.{zoneCheck}
 use Rattle.geometry.specs.declared.Geometry.{Geometry}
 use Rattle.geometry.specs.Places.{firstBit, endBit, blockBit}
-use Rattle.model.specs.Chain.{Pair}
 use Rattle.model.specs.Pieces.{Piece}
 use Rattle.model.specs.Drawing.{draw, linkOf}
 use Rattle.calls.specs.Edits.{Disc, inZone}

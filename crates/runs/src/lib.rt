@@ -8,7 +8,7 @@ pub fn demand_3()
     ensures { λ _. ⌜ Demand3 ⌝ }
 {}
 
-// Refusals 12 to 15 and what a claim takes, in the papers' words.
+// What accepted edits do, when a place is accepted, and refusals 12 to 15, in the papers' words.
 pub fn edit_rules()
     ensures { λ _. ⌜ EditRules ⌝ }
 {}

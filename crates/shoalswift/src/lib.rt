@@ -1,6 +1,6 @@
 // The library for C and Rust: every call of document 01 as an exported function. A slice is a pointer and a length, a reference to a
-// number a pointer. Each answers the refusal number (0: accepted); `zone` and every other number lent are always written, 0 where
-// refused or not told. Each has the full contract of the call that it forwards to.
+// number a pointer. Each answers the refusal number (0: accepted); `zone` is always written, the zone told or 0, and so is every other
+// number lent, 0 where the call is refused. Each has the full contract of the call that it forwards to.
 use claim::Claimed;
 use listing::Listed;
 use map::Checked;
@@ -46,7 +46,7 @@ pub extern "C" fn shoalswift_list(
     pairs: &mut u64,
     zone: &mut u32,
 ) -> u32
-    ensures answer { λ r. ⌜ (r, now (zone .exit), now (pairs .exit)) ≡ listNumbers (listed.answerOf (objectFound (now (map .entry)) id (length (now (list .entry))))) ⌝ }
+    ensures answer { λ r. ⌜ (r, now (zone .exit), now (pairs .exit)) ≡ listNumbers (listed.listAnswer (objectFound (now (map .entry)) id (length (now (list .entry))))) ⌝ }
     ensures list { λ r. ⌜ now (list .exit) ≡ listed.listAfter (now (list .entry)) (objectFound (now (map .entry)) id (length (now (list .entry)))) ⌝ }
 {
     let r = listing::list(map, id, list);
@@ -61,7 +61,7 @@ pub extern "C" fn shoalswift_free(
     pairs: &mut u64,
     zone: &mut u32,
 ) -> u32
-    ensures answer { λ r. ⌜ (r, now (zone .exit), now (pairs .exit)) ≡ listNumbers (listed.answerOf (freeFound (now (map .entry)) (length (now (list .entry))))) ⌝ }
+    ensures answer { λ r. ⌜ (r, now (zone .exit), now (pairs .exit)) ≡ listNumbers (listed.listAnswer (freeFound (now (map .entry)) (length (now (list .entry))))) ⌝ }
     ensures list { λ r. ⌜ now (list .exit) ≡ listed.listAfter (now (list .entry)) (freeFound (now (map .entry)) (length (now (list .entry)))) ⌝ }
 {
     let r = listing::free(map, list);
@@ -137,7 +137,7 @@ pub extern "C" fn shoalswift_release(
     pairs: &mut u64,
     zone: &mut u32,
 ) -> u32
-    ensures answer { λ r. ⌜ (r, now (zone .exit), now (pairs .exit)) ≡ listNumbers (listed.answerOf (pairsTaken (outcome (now (map .entry)) (call.release id (length (now (list .entry))))))) ⌝ }
+    ensures answer { λ r. ⌜ (r, now (zone .exit), now (pairs .exit)) ≡ listNumbers (listed.listAnswer (pairsTaken (outcome (now (map .entry)) (call.release id (length (now (list .entry))))))) ⌝ }
     ensures bytes { λ r. ⌜ now (map .exit) ≡ step (now (map .entry)) (call.release id (length (now (list .entry)))) ⌝ }
     ensures list { λ r. ⌜ now (list .exit) ≡ listed.listAfter (now (list .entry)) (pairsTaken (outcome (now (map .entry)) (call.release id (length (now (list .entry)))))) ⌝ }
 {
@@ -148,7 +148,7 @@ pub extern "C" fn shoalswift_release(
 // Places a list of pieces under an absent id.
 #[no_mangle]
 pub extern "C" fn shoalswift_place(map: &mut [u8], id: u32, list: &[u32], zone: &mut u32) -> u32
-    ensures answer { λ r. ⌜ (r, now (zone .exit)) ≡ placed.placeNumbers (placed.answerOf (outcome (now (map .entry)) (call.place id (now (list .entry))))) ⌝ }
+    ensures answer { λ r. ⌜ (r, now (zone .exit)) ≡ placed.placeNumbers (placed.placeAnswer (outcome (now (map .entry)) (call.place id (now (list .entry))))) ⌝ }
     ensures bytes { λ r. ⌜ now (map .exit) ≡ step (now (map .entry)) (call.place id (now (list .entry))) ⌝ }
 {
     match place::place(map, id, list) {
@@ -173,7 +173,7 @@ pub extern "C" fn shoalswift_claim(
     length: &mut u32,
     zone: &mut u32,
 ) -> u32
-    ensures answer { λ r. ⌜ (r, now (zone .exit), now (id .exit), now (start .exit), now (length .exit)) ≡ claimed.claimNumbers (claimed.answerOf (outcome (now (map .entry)) (call.claim size))) ⌝ }
+    ensures answer { λ r. ⌜ (r, now (zone .exit), now (id .exit), now (start .exit), now (length .exit)) ≡ claimed.claimNumbers (claimed.claimAnswer (outcome (now (map .entry)) (call.claim size))) ⌝ }
     ensures bytes { λ r. ⌜ now (map .exit) ≡ step (now (map .entry)) (call.claim size) ⌝ }
 {
     match claim::claim(map, size) {

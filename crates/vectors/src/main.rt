@@ -2,7 +2,6 @@
 // lines expected (`stdout`) are written by the second program, so the gate holds the two programs together. The form of a case is
 // described in second/README.md.
 use libc::STDOUT_FILENO;
-ghost use mathlib.Core.Path.{_≡_};
 ghost use Prim.Native.Nat.{_*_, _≤_};
 ghost use lib.ListN.{length};
 

@@ -1,7 +1,7 @@
 -- A gap drawn: nothing where it has no bits, and else one free fragment, whose id leads on to the next gap.
 use mathlib.Core.Path.{_≡_, sym, ap, _∙_}
 use mathlib.Core.Bool.{Bool}
-use mathlib.Core.List.{List, [], _++_, append-assoc}
+use mathlib.Core.List.{List, _++_, append-assoc}
 use mathlib.Core.Logic.{inl, inr}
 use Prim.Native.Nat.{ℕ, suc, _+_, _-_, _*_, _^_, _<_, _≤_}
 use native.Mathlib.Omega.{arith}
@@ -10,11 +10,11 @@ use lib.ListN.{take, drop, take-append-drop}
 use borrow.Author.Tests.{lt-ltb, le-ltb}
 use Rattle.bits.specs.Bits.{numberBits}
 use Rattle.model.specs.Fragments.{closed}
-use Rattle.model.specs.Drawing.{Hole}
-use Rattle.model.proofs.ZoneDrawn.{lies, hole-le}
+use Rattle.model.specs.Drawing.{GapRoom}
+use Rattle.model.proofs.ZoneDrawn.{hole-le}
 use Rattle.writer.specs.Redraw.{GapAsks, GapDrawn}
 
-hole-room : (idlen from to : ℕ) → Hole idlen from to → from < to → from + idlen < to
+hole-room : (idlen from to : ℕ) → GapRoom idlen from to → from < to → from + idlen < to
 hole-room idlen from to (inl e) h = omega arith
 hole-room idlen from to (inr k) h = k
 

@@ -11,7 +11,7 @@ use Rattle.bits.specs.Bits.{byteBits}
 use Rattle.bits.proofs.Tests.{by-test}
 use Rattle.model.specs.Chain.{Pair}
 use Rattle.model.specs.Pieces.{Piece}
-use Rattle.model.specs.Drawing.{Hole, Drawable}
+use Rattle.model.specs.Drawing.{GapRoom, Drawable}
 use Rattle.model.proofs.ZoneDrawn.{lies, lies-le, hole-le}
 use Rattle.calls.specs.Order.{Ascending}
 use Rattle.calls.specs.Edits.{notOf, without, put, own}
@@ -67,7 +67,7 @@ module _ {block list : List ℕ} {j hole at chain : ℕ} {p : Plan} (d : RedrawA
       }
 
   -- a gap of the zone, in a block of the same length
-  gap-asks : (n to next : ℕ) → n ≡ length block → Hole (p .idlen) hole to → to ≤ p .end → next ≤ p .end → GapAsks n (p .idlen) hole to next
+  gap-asks : (n to next : ℕ) → n ≡ length block → GapRoom (p .idlen) hole to → to ≤ p .end → next ≤ p .end → GapAsks n (p .idlen) hole to next
   gap-asks n to next e r h k =
       record {
         past-header = d .past-header;
@@ -145,7 +145,7 @@ module _ {block list : List ℕ} {j hole at chain : ℕ} {p : Plan} (d : RedrawA
           let q : mergedFrom block list j at chain p ≡ put (map (toPiece p) qs) [] = ap (λ (l : List Piece). put (map (toPiece p) qs) (without (p .gone) l)) o in
           q ∙ none-drawn p (p .idlen) hole qs (d .ascending) (subst (λ (x : Stretch). p .end ≤ x .start) es (omega arith)) (subst (λ (l : List Piece). Drawable (p .idlen) hole (p .end) l) q (d .drawable))
 
-      last-hole : Hole (p .idlen) hole (p .end)
+      last-hole : GapRoom (p .idlen) hole (p .end)
       last-hole = subst (λ (l : List Piece). Drawable (p .idlen) hole (p .end) l) none-merged (d .drawable)
 
       pub last-hole-le : hole ≤ p .end

@@ -11,7 +11,7 @@ use Rattle.bits.specs.Bits.{value, zeros}
 use Rattle.model.specs.Fragments.{Fragment, fragmentBits, fragmentsIn}
 use Rattle.model.specs.Chain.{Entry, follow}
 use Rattle.model.specs.Pieces.{Piece, ownedOf}
-use Rattle.model.specs.Drawing.{Hole, gap, firstFree, draw}
+use Rattle.model.specs.Drawing.{GapRoom, gap, firstFree, draw}
 
 -- the fragment at a place: its id, and its length with the closing bit
 abbrev pub idAt : ℕ → ℕ → List Bool → ℕ
@@ -52,7 +52,7 @@ pub record ZoneBits (n idlen end : ℕ) : Type 0 where
 -- a gap from `hole` to `to` that can be drawn in a block of n bytes; the next one is at `next`, 0 where there is none
 pub record GapAsks (n idlen hole to next : ℕ) : Type 0 where
   pub past-header : 0 < hole
-  pub room : Hole idlen hole to
+  pub room : GapRoom idlen hole to
   pub in-block : to ≤ n * 8
   pub to-high : to ≤ 8192
   pub next-high : next ≤ 8192

@@ -5,10 +5,11 @@
 // `redraw` reads a fragment, has the rest of the zone drawn first, and then draws its own piece and the gap before it. So
 // everything is read before the first write, and where the next gap starts is the answer of the call for the rest: no second
 // copy of the block, no list of pieces, no patching.
+use geometry::DiscBit;
 use geometry::Geometry;
 ghost use mathlib.Core.Path.{_≡_};
 ghost use mathlib.Core.List.{_++_};
-ghost use Prim.Native.Nat.{ℕ, suc, _+_, _-_, _*_, _^_, _<_, _≤_, _%_};
+ghost use Prim.Native.Nat.{suc, _+_, _-_, _*_, _^_, _<_, _≤_, _%_};
 ghost use lib.ListN.{length, take, drop};
 ghost use lib.Bits.{bitXor};
 ghost use Rattle.bits.specs.Bits.{byteBits, numberBits};
@@ -148,16 +149,9 @@ fn next_listed(list: &[u32], j: usize, low: usize, end: usize) -> Stretch
         return Stretch { start: end, len: 0 };
     }
     Stretch {
-        start: in_block(list[j], low),
+        start: DiscBit(list[j] as usize).block_bit(low).0,
         len: list[j + 1] as usize,
     }
-}
-
-// A disc bit as a block bit of the zone whose z*Z is `low`; 0 for one before its block.
-fn in_block(d: u32, low: usize) -> usize
-    ensures { λ r. ⌜ r ≡ d + 512 - low ⌝ }
-{
-    bits::minus(d as usize + 512, low)
 }
 
 // Draws a free fragment from `hole` to `to`, if there are bits between, that leads on to `next`. Answers where the first gap

@@ -10,7 +10,7 @@ use Rattle.fragment.proofs.Step.{fragmentOf}
 use Rattle.geometry.specs.declared.Geometry.{Geometry}
 use Rattle.model.specs.Fragments.{Fragment}
 use Rattle.model.specs.Chain.{free, owned, Entry, entry, onward, follow}
-use Rattle.model.specs.Verdict.{sound, zoneRead}
+use Rattle.model.specs.Check.{sound, zoneRead}
 use Rattle.model.proofs.Followed.{before-inv}
 use Rattle.zone.specs.Walk.{holderOf}
 use Rattle.zone.specs.Lines.{entriesOf, entriesIn, IsRead}

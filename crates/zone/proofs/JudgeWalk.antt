@@ -20,7 +20,7 @@ use Rattle.geometry.specs.Places.{firstBit, endBit}
 use Rattle.model.specs.Fragments.{Fragment, edge, cut}
 use Rattle.model.specs.Chain.{Holder, free, owned, Entry, entry, onward, before, follow}
 use Rattle.model.specs.Blocks.{freeLink, linkIn, allocBits}
-use Rattle.model.specs.Verdict.{every, inClusters, holderFits, idFits, endFits, firstOwned, ownersFit, afterFollow, afterCut, zoneRead}
+use Rattle.model.specs.Check.{every, inClusters, holderFits, idFits, endFits, firstOwned, ownersFit, afterFollow, afterCut, zoneRead}
 use Rattle.zone.specs.Walk.{holderOf, endHolds, firstHolds, entryHolds, verdictOf}
 use Rattle.zone.specs.declared.ZoneVerdict.{ZoneVerdict}
 use Rattle.zone.specs.declared.ZoneVerdict.the-variants.{Kept, Broken}

@@ -21,7 +21,7 @@ use Rattle.geometry.specs.Places.{firstBit, discBit}
 use Rattle.model.specs.Fragments.{Fragment, edge, cut}
 use Rattle.model.specs.Chain.{Entry, entry, onward, follow}
 use Rattle.model.specs.Blocks.{linkIn}
-use Rattle.model.specs.Verdict.{inClusters}
+use Rattle.model.specs.Check.{inClusters}
 use Rattle.model.proofs.Options.{none-some, some-some}
 use Rattle.model.proofs.Followed.{none-left, before-inv}
 use Rattle.model.proofs.ZoneTests.{zone-tests}

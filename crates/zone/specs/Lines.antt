@@ -5,7 +5,7 @@ use Prim.Native.Nat.{ℕ}
 use Rattle.geometry.specs.declared.Geometry.{Geometry}
 use Rattle.geometry.specs.Places.{discBit}
 use Rattle.model.specs.Chain.{Holder, free, owned, Entry}
-use Rattle.model.specs.Verdict.{ZoneRead, fault, sound, zoneRead}
+use Rattle.model.specs.Check.{ZoneRead, fault, sound, zoneRead}
 
 -- the entries of a zone that was read
 abbrev pub entriesOf : ZoneRead → List Entry

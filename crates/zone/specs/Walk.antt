@@ -5,7 +5,7 @@ use lib.Dec.{eqb, leb}
 use Rattle.geometry.specs.declared.Geometry.{Geometry}
 use Rattle.geometry.specs.Places.{discBit}
 use Rattle.model.specs.Chain.{Holder, free, owned}
-use Rattle.model.specs.Verdict.{ZoneRead, fault, sound, isOwned, holderFits}
+use Rattle.model.specs.Check.{ZoneRead, fault, sound, isOwned, holderFits}
 use Rattle.zone.specs.declared.ZoneVerdict.{ZoneVerdict}
 use Rattle.zone.specs.declared.ZoneVerdict.the-variants.{Kept, Broken}
 

@@ -9,13 +9,13 @@ use geometry::BlockBit;
 use geometry::Geometry;
 ghost use mathlib.Core.Path.{_≡_};
 ghost use mathlib.Core.List.{[], _∷_, _++_};
-ghost use Prim.Native.Nat.{ℕ, _+_, _-_, _*_, _^_, _<_, _≤_};
+ghost use Prim.Native.Nat.{_+_, _-_, _*_, _<_, _≤_};
 ghost use lib.ListN.{length, take, drop};
 ghost use Rattle.geometry.specs.Accepted.{AcceptedGeometry};
 ghost use Rattle.geometry.specs.Places.{firstBit, endBit};
 ghost use Rattle.model.specs.Chain.{onward};
 ghost use Rattle.model.specs.Blocks.{freeLink, linkIn};
-ghost use Rattle.model.specs.Verdict.{zoneRead, holderFits};
+ghost use Rattle.model.specs.Check.{zoneRead, holderFits};
 ghost use Rattle.zone.specs.Walk.{holderOf, endHolds, firstHolds, entryHolds, verdictOf};
 ghost use Rattle.zone.specs.Lines.{entriesIn, IsRead, lines, holderNumber};
 
@@ -26,7 +26,7 @@ pub enum ZoneVerdict {
 }
 
 // Judges zone z: 6, 5, 7, in one pass. A broken fragment ends the walk, since 6 comes first; the chain and the owners are
-// told at the end. A link that lands on no fragment's start is one still open there.
+// told at the end. There `next` is 0 unless some link landed on no fragment's start.
 pub fn judge(block: &[u8], z: usize, g: Geometry) -> ZoneVerdict
     requires { ⌜ AcceptedGeometry g × (z < g .zones) × (length (now block) ≡ g .sector) ⌝ }
     ensures { λ r. ⌜ r ≡ verdictOf (zoneRead g z (now (block .entry))) ⌝ }
@@ -132,7 +132,8 @@ fn entry_holds(g: Geometry, z: usize, first: bool, free: bool, id: usize, to: us
     )
 }
 
-// The fragments of a zone that keeps the rules, ascending: owner (0 for a free one), disc bit, length. Answers how many.
+// The fragments of a zone that keeps the rules, ascending: owner (0 for a free one), disc bit, length. Answers how many. A buffer of
+// 2,048 numbers holds the lines of every zone: a fragment has at least 12 bits, so there are at most 680 of them.
 pub fn list_zone(block: &[u8], z: usize, g: Geometry, out: &mut [u32]) -> usize
     requires { ⌜ AcceptedGeometry g × (z < g .zones) × (length (now block) ≡ g .sector) × IsRead g z (now block) × (3 * length (entriesIn g z (now block)) ≤ length (now out)) ⌝ }
     ensures count { λ r. ⌜ r ≡ length (entriesIn g z (now (block .entry))) ⌝ }

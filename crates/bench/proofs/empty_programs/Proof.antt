@@ -8,14 +8,13 @@ use Rattle.checks.specs.Words.{zoneCheck, wordsOf, total}
 use Rattle.checks.specs.Maps.{mapA, mapB}
 use Rattle.geometry.specs.declared.Geometry.{Geometry}
 use Rattle.geometry.specs.declared.Refusal.{Refusal}
-use Rattle.map.specs.Checked.{checked}
 use Rattle.map.specs.declared.Checked.the-variants as check
 use Rattle.listing.specs.declared.Listed.the-variants as listed
 use Rattle.reach.specs.declared.Location.{Location}
 use Rattle.reach.specs.declared.Reached.the-variants as reached
 use Rattle.reach.specs.declared.Swept.the-variants as swept
-use Rattle.calls.specs.Edits.{Disc, Edit}
-use Rattle.runs.specs.Steps.{Outcome, refused, done, outcome, step}
+use Rattle.place.specs.declared.Placed.the-variants as given
+use Rattle.claim.specs.declared.Claimed.the-variants as taken
 use Rattle.bench.proofs.empty_programs.Statement.{statement}
 use Rattle.bench.proofs.empty_programs.Tie as tie
 
@@ -32,8 +31,11 @@ at-refused e = let z : _≡_ {A = ℕ} 0 1 = cc in omega arith
 count-refused : {n : ℕ} {r : Refusal} → swept.Count n ≡ swept.Refused r → ⊥
 count-refused e = let z : _≡_ {A = ℕ} 0 1 = cc in omega arith
 
-done-refused : {e : Edit} {s : Disc} {n z : ℕ} → done e s ≡ refused n z → ⊥
+done-refused : {r : Refusal} → given.Done ≡ given.Refused r → ⊥
 done-refused e = let z : _≡_ {A = ℕ} 0 1 = cc in omega arith
+
+piece-refused : {id start len : ℕ} {r : Refusal} → taken.Piece id start len ≡ taken.Refused r → ⊥
+piece-refused e = let z : _≡_ {A = ℕ} 0 1 = cc in omega arith
 
 returns : tie.Need-returns
 unfolding zoneCheck wordsOf total
@@ -57,14 +59,15 @@ returns c =
       free-sweep-one-answer = λ h. count-refused (h 32766 4 .1 mapB ∙ sym (h 32766 4 .1 []));
       free-sweep-writes-nothing = λ h. let e : _≡_ {A = ℕ} 7 1 = ap (λ (l : List ℕ). getD l 2 0) (h mapB 32766 7 (1 ∷ 1 ∷ 1 ∷ 1 ∷ [])) in omega arith;
       free-sweep-writes-all = λ h. let e : _≡_ {A = ℕ} 1 7 = ap (λ (l : List ℕ). getD l 1 0) (h mapB 32766 7 (1 ∷ 1 ∷ 1 ∷ 1 ∷ [])) in omega arith;
-      release-refuses = λ h. done-refused (h mapB (5, 2) .2);
-      release-one-answer = λ h. done-refused (h .1 mapB (5, 2) ∙ sym (h .1 mapA (5, 2)));
-      release-edits-nothing = λ h. let e : _≡_ {A = ℕ} 199 40 = ap (λ (l : List ℕ). getD l 0 0) (h mapB (5, 2)) in omega arith;
-      place-refuses = λ h. done-refused (h mapA (5, 12 ∷ 20 ∷ []) .2);
-      place-one-answer = λ h. done-refused (h .1 mapA (5, 12 ∷ 20 ∷ []) ∙ sym (h .1 mapA (5, [])));
-      place-edits-nothing = λ h. let e : _≡_ {A = ℕ} 40 199 = ap (λ (l : List ℕ). getD l 0 0) (h mapA (5, 12 ∷ 20 ∷ [])) in omega arith;
-      claim-refuses = λ h. done-refused (h mapA 20480 .2);
-      claim-one-answer = λ h. done-refused (h .1 mapA 20480 ∙ sym (h .1 mapA 0));
+      release-refuses = λ h. pairs-refused (h 5 2 mapB .1);
+      release-one-answer = λ h. pairs-refused (h 5 2 .1 mapB ∙ sym (h 5 2 .1 mapA));
+      release-edits-nothing = λ h. let e : _≡_ {A = ℕ} 199 40 = ap (λ (l : List ℕ). getD l 0 0) (h mapB 5 2) in omega arith;
+      release-writes-nothing = λ h. let e : _≡_ {A = ℕ} 12 9 = ap (λ (l : List ℕ). getD l 0 0) (h mapB 5 (9 ∷ 9 ∷ [])) in omega arith;
+      place-refuses = λ h. done-refused (h 5 (12 ∷ 20 ∷ []) mapA .1);
+      place-one-answer = λ h. done-refused (h 5 (12 ∷ 20 ∷ []) .1 mapA ∙ sym (h 5 (12 ∷ 20 ∷ []) .1 mapB));
+      place-edits-nothing = λ h. let e : _≡_ {A = ℕ} 40 199 = ap (λ (l : List ℕ). getD l 0 0) (h mapA 5 (12 ∷ 20 ∷ [])) in omega arith;
+      claim-refuses = λ h. piece-refused (h 20480 mapA .1);
+      claim-one-answer = λ h. piece-refused (h 20480 .1 mapA ∙ sym (h 20480 .1 []));
       claim-edits-nothing = λ h. let e : _≡_ {A = ℕ} 8 199 = ap (λ (l : List ℕ). getD l 0 0) (h mapA 20480) in omega arith;
     }
 

@@ -1,7 +1,6 @@
 -- The zeros passed and those still ahead are all of them.
-use Prim.Native.Nat.{ℕ, _+_, _-_, _≤_, _<_}
+use Prim.Native.Nat.{ℕ, _+_, _-_, _≤_}
 use mathlib.Core.Path.{_≡_, sym, ap, _∙_}
-use lib.ListN.{length}
 use lib.Seq.{slice}
 use native.Mathlib.Omega.{arith}
 use Rattle.bits.specs.Bits.{byteBits, zeros}

@@ -2,8 +2,8 @@
 use mathlib.Core.Path.{sym, _∙_}
 use native.Mathlib.Omega.{arith}
 use Rattle.bits.proofs.Bytes.{all-bytes}
-use Rattle.holes.proofs.ZonesTouching.{none-told, zone-told}
-use Rattle.claim.proofs.Answers.{touching-refuses, can-edit, none-refused}
+use Rattle.holes.proofs.EditableMap.{map-editable}
+use Rattle.claim.proofs.Answers.{touching-refuses, none-refused}
 use borrow.Author.Needs.{needs}
 use Rattle.claim.proofs.claim_checked.Statement.{statement}
 use Rattle.claim.proofs.claim_checked.Tie as tie
@@ -27,7 +27,7 @@ returns c =
     let b = h .before .before in
     let s = b .before in
     let m = s .args .map .now in
-    none-refused (s .pre) (can-edit (s .pre) (all-bytes m (λ j. b .slice-known .given j .fits)) (none-told _ (sym (h .first-touching .ensures) ∙ e .enum-told .given .1))) (s .args .size) (c .if1 .taken)
+    none-refused (map-editable (s .pre) (all-bytes m (λ j. b .slice-known .given j .fits)) (sym (h .first-touching .ensures) ∙ e .enum-told .given .1)) (s .args .size) (c .if1 .taken)
 
 claim-room-requires : tie.Need-claim-room-requires
 claim-room-requires c κs =
@@ -36,7 +36,7 @@ claim-room-requires c κs =
     let b = h .before .before in
     let s = b .before in
     let m = s .args .map .now in
-    (s .pre, (can-edit (s .pre) (all-bytes m (λ j. b .slice-known .given j .fits)) (none-told _ (sym (h .first-touching .ensures) ∙ e .enum-told .given .1))), omega (arith, c .before .if1 .left))
+    (map-editable (s .pre) (all-bytes m (λ j. b .slice-known .given j .fits)) (sym (h .first-touching .ensures) ∙ e .enum-told .given .1), omega (arith, c .before .if1 .left))
 
 same-length-2 : tie.Need-same-length-2
 same-length-2 c = search needs
@@ -46,7 +46,7 @@ returns-2 c =
     let t = c .before in
     let h = t .before .before in
     let s = h .before .before .before in
-    touching-refuses (s .pre) (s .args .size) (t .zone .given .0 .0) (zone-told _ (t .zone .given .0 .0) (sym (h .first-touching .ensures) ∙ t .zone .given .1))
+    touching-refuses (s .pre) (s .args .size) (t .zone .given .0 .0) (sym (h .first-touching .ensures) ∙ t .zone .given .1)
 
 same-length-3 : tie.Need-same-length-3
 same-length-3 c = search needs

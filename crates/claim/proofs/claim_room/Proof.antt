@@ -30,7 +30,7 @@ taken-of-requires c κs =
     let n = h .before .before in
     let s = n .before .before in
     let e = hole-at _ (q .0) (q .1 .0) (sym (h .first-hole .ensures) ∙ t .start .given .1) in
-    (s .pre .0 .numbers, hole-long (s .pre .0) (s .pre .1) (s .args .size) (s .pre .2) (n .need-of .result) (q .0) (q .1 .0) e)
+    (s .pre .0 .accepted .numbers, hole-long (s .pre .0) (s .args .size) (s .pre .1) (n .need-of .result) (q .0) (q .1 .0) e)
 
 give-piece-requires : tie.Need-give-piece-requires
 give-piece-requires c κs =
@@ -43,7 +43,7 @@ give-piece-requires c κs =
     let n = h .before .before in
     let s = n .before .before in
     let e = hole-at _ (q .0) (q .1 .0) (sym (h .first-hole .ensures) ∙ t .start .given .1) in
-    piece-fits (s .pre .0) (s .pre .1) (s .args .size) (s .pre .2) (n .need-of .result) (q .0) (q .1 .0) (i .lowest-unused .result) (l .taken-of .result) (n .need-of .ensures) e (i .lowest-unused .ensures) (l .taken-of .ensures)
+    piece-fits (s .pre .0) (s .args .size) (s .pre .1) (n .need-of .result) (q .0) (q .1 .0) (i .lowest-unused .result) (l .taken-of .result) (n .need-of .ensures) e (i .lowest-unused .ensures) (l .taken-of .ensures)
 
 same-length : tie.Need-same-length
 same-length c = search needs
@@ -53,7 +53,7 @@ returns c =
     let h = c .before .before in
     let n = h .before .before in
     let s = n .before .before in
-    no-room (s .pre .0) (s .pre .1) (s .args .size) (s .pre .2) (n .need-of .result) (n .need-of .ensures) (no-hole _ (sym (h .first-hole .ensures) ∙ c .enum-told .given .1))
+    no-room (s .pre .0) (s .args .size) (s .pre .1) (n .need-of .result) (n .need-of .ensures) (no-hole _ (sym (h .first-hole .ensures) ∙ c .enum-told .given .1))
 
 same-length-2 : tie.Need-same-length-2
 same-length-2 c = search needs
@@ -70,7 +70,7 @@ returns-2 c =
     let n = h .before .before in
     let s = n .before .before in
     let e = hole-at _ (q .0) (q .1 .0) (sym (h .first-hole .ensures) ∙ t .start .given .1) in
-    piece-claims (s .pre .0) (s .pre .1) (s .args .size) (s .pre .2) (n .need-of .result) (q .0) (q .1 .0) (i .lowest-unused .result) (l .taken-of .result) (n .need-of .ensures) e (i .lowest-unused .ensures) (l .taken-of .ensures) (u .give-piece .last .0) (u .give-piece .ensures)
+    piece-claims (s .pre .0) (s .args .size) (s .pre .1) (n .need-of .result) (q .0) (q .1 .0) (i .lowest-unused .result) (l .taken-of .result) (n .need-of .ensures) e (i .lowest-unused .ensures) (l .taken-of .ensures) (u .give-piece .last .0) (u .give-piece .ensures)
 
 pub claim-room-spec : {M : Type 1} → statement M
 claim-room-spec =

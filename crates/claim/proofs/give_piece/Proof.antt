@@ -7,19 +7,19 @@ use Rattle.claim.proofs.give_piece.Statement.{statement}
 use Rattle.claim.proofs.give_piece.Tie as tie
 
 zone-of-requires : tie.Need-zone-of-requires
-zone-of-requires c κs = let s = c .before in (s .pre .map-accepted .numbers, omega (arith, piece-on-disc (s .pre)))
+zone-of-requires c κs = let s = c .before in (s .pre .editable .accepted .numbers, omega (arith, piece-on-disc (s .pre)))
 
 mul-a : tie.Need-mul-a
 mul-a c =
     let w = c .before .zone-of in
     let s = c .before .before .before in
-    omega (arith, zone-end (s .args .g .zones) (s .args .g .sector) (w .result) (piece-zone (s .pre) (w .result) (w .ensures)), s .pre .map-accepted .sized)
+    omega (arith, zone-end (s .args .g .zones) (s .args .g .sector) (w .result) (piece-zone (s .pre) (w .result) (w .ensures)), s .pre .editable .accepted .sized)
 
 add-e : tie.Need-add-e
 add-e c =
     let w = c .before .before .zone-of in
     let s = c .before .before .before .before in
-    omega (arith, zone-end (s .args .g .zones) (s .args .g .sector) (w .result) (piece-zone (s .pre) (w .result) (w .ensures)), s .pre .map-accepted .sized)
+    omega (arith, zone-end (s .args .g .zones) (s .args .g .sector) (w .result) (piece-zone (s .pre) (w .result) (w .ensures)), s .pre .editable .accepted .sized)
 
 sub-edit-zone : tie.Need-sub-edit-zone
 sub-edit-zone c = search needs
@@ -31,7 +31,7 @@ part-edit-zone-end : tie.Need-part-edit-zone-end
 part-edit-zone-end c =
     let w = c .before .before .zone-of in
     let s = c .before .before .before .before in
-    omega (arith, zone-end (s .args .g .zones) (s .args .g .sector) (w .result) (piece-zone (s .pre) (w .result) (w .ensures)), s .pre .map-accepted .sized)
+    omega (arith, zone-end (s .args .g .zones) (s .args .g .sector) (w .result) (piece-zone (s .pre) (w .result) (w .ensures)), s .pre .editable .accepted .sized)
 
 slice-aggregate-edit-zone : tie.Need-slice-aggregate-edit-zone
 slice-aggregate-edit-zone c = search needs

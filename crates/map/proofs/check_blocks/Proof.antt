@@ -1,6 +1,6 @@
 -- The answers of `Answers`: the zone checks, then the cross checks, then the zones.
 use mathlib.Core.Path.{sym, _∙_}
-use Rattle.model.specs.Verdict.{blocksOf}
+use Rattle.model.specs.Check.{blocksOf}
 use Rattle.map.proofs.Answers.{check-differs, cross-differs, cross-holds}
 use borrow.Author.Needs.{needs}
 use Rattle.map.proofs.check_blocks.Statement.{statement}

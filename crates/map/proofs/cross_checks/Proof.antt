@@ -3,7 +3,7 @@ use Prim.Native.Nat.{ℕ, _-_, _≤_}
 use mathlib.Core.Path.{_≡_, ap, _∙_}
 use native.Mathlib.Omega.{arith}
 use lib.Bits.{bitXor}
-use Rattle.model.specs.Verdict.{crossSum}
+use Rattle.model.specs.Check.{crossSum}
 use Rattle.model.proofs.ByPlace.{restFrom, rest-all, zone-end, block-length}
 use Rattle.map.proofs.ChecksByZone.{cross-turn, cross-none}
 use borrow.Author.Needs.{needs}

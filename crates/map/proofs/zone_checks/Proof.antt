@@ -4,7 +4,7 @@ use mathlib.Core.Path.{_≡_, sym, ap, _∙_}
 use native.Mathlib.Omega.{arith}
 use borrow.Author.Tests.{not-true, not-false}
 use Rattle.model.specs.Blocks.{blocks}
-use Rattle.model.specs.Verdict.{differing}
+use Rattle.model.specs.Check.{differing}
 use Rattle.map.specs.Checked.{firstDiffering}
 use Rattle.model.proofs.ByPlace.{restFrom, rest-all, zone-end, block-length}
 use Rattle.map.proofs.ChecksByZone.{checks-turn, checks-stop, checks-end}

@@ -1,8 +1,5 @@
 -- The laws of `ZoneDrawn`, with the id's length as it stands.
-use mathlib.Core.Path.{_≡_, subst}
-use mathlib.Core.Option.{some}
-use Prim.Native.Nat.{ℕ, suc, _+_, _-_, _^_, _<_, _≤_}
-use native.Mathlib.Omega.{arith}
+use Prim.Native.Nat.{_-_}
 use Rattle.model.proofs.ZoneDrawn.{read-drawn, owned-drawn, drawn-read}
 use Rattle.model.proofs.drawing_laws.Statement.{statement}
 use Rattle.model.proofs.drawing_laws.Tie as tie

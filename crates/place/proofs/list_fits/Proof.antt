@@ -1,6 +1,6 @@
 -- The pairs from entry i on fit from place `from` on exactly where all pairs fit. The measure is what is left of the list.
 use borrow.Author.Needs.{needs}
-use Rattle.place.proofs.ListJudged.{empty-list, odd-list, even-list, fits-ends, bad-pair, bad-order, fits-goes-on}
+use Rattle.place.proofs.ListJudged.{empty-list, odd-list, even-list, fits-ends, pair-fails, order-fails, fits-goes-on}
 use Rattle.place.specs.Parts.{fitsFrom}
 use Rattle.calls.proofs.Invariant.{pair-tested}
 use Rattle.calls.specs.Judge.{pairsFrom}
@@ -62,7 +62,7 @@ returns-3 c =
     let s = e .before .before .before in
     let a = s .args in
     let l = c .before .before .before .before .loop-test .taken in
-    sym (bad-pair (a .g) (a .start) (a .list .now) (e .if2 .left) (p .loop .i) (p .loop .from) l (p .loop .inv .1) (sym (c .before .pair-fits .ensures) ∙ not-true (c .before .pair-fits .result) (c .if3 .taken)))
+    sym (pair-fails (a .g) (a .start) (a .list .now) (e .if2 .left) (p .loop .i) (p .loop .from) l (p .loop .inv .1) (sym (c .before .pair-fits .ensures) ∙ not-true (c .before .pair-fits .result) (c .if3 .taken)))
     ∙ p .loop .inv .0 ∙ even-list (a .g) (a .start) (a .list .now) (e .before .if1 .left) (e .if2 .left)
 
 order-place-requires : tie.Need-order-place-requires Inv-loop μ-loop
@@ -83,7 +83,7 @@ returns-4 c =
     let a = s .args in
     let l = c .before .before .before .before .before .before .loop-test .taken in
     let f = c .before .before .before .pair-fits in
-    sym (bad-order (a .g) (a .start) (a .list .now) (e .if2 .left) (p .loop .i) (p .loop .from) l (p .loop .inv .1) (sym (f .ensures) ∙ not-false (f .result) (c .before .before .if3 .left)) (c .before .order-place .ensures .0) (c .if4 .taken))
+    sym (order-fails (a .g) (a .start) (a .list .now) (e .if2 .left) (p .loop .i) (p .loop .from) l (p .loop .inv .1) (sym (f .ensures) ∙ not-false (f .result) (c .before .before .if3 .left)) (c .before .order-place .ensures .0) (c .if4 .taken))
     ∙ p .loop .inv .0 ∙ even-list (a .g) (a .start) (a .list .now) (e .before .if1 .left) (e .if2 .left)
 
 add-from : tie.Need-add-from Inv-loop μ-loop

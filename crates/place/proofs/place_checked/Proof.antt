@@ -1,6 +1,7 @@
 -- The refusals 8, 9, 11 and 12, or the rest with a list that fits.
 use Rattle.place.proofs.Answers.{id-below, start-refuses, touching-refuses, object-refuses, list-refuses, place-asks}
 use Rattle.bits.proofs.Bytes.{all-bytes}
+use Rattle.holes.proofs.EditableMap.{map-editable}
 use borrow.Author.Tests.{not-true, not-false}
 use mathlib.Core.Path.{sym, _∙_}
 use borrow.Author.Needs.{needs}
@@ -46,9 +47,8 @@ returns-2 c =
     let s = y .before in
     let a = s .args in
     let e = sym (z .start-zone .ensures) ∙ v .start .given .1 in
-    let b = all-bytes (a .map .now) (λ n. y .slice-known .given n .fits) in
-    let t = sym (f .first-touching .ensures) ∙ d .enum-told .given .1 in
-    object-refuses (s .pre) (a .id) (a .list .now) (i .if1 .left) e b t (k .count-zones .ensures) (c .if2 .taken)
+    let w = map-editable (s .pre) (all-bytes (a .map .now) (λ n. y .slice-known .given n .fits)) (sym (f .first-touching .ensures) ∙ d .enum-told .given .1) in
+    object-refuses (s .pre) (a .id) (a .list .now) (i .if1 .left) e w (k .count-zones .ensures) (c .if2 .taken)
 
 list-fits-requires : tie.Need-list-fits-requires
 list-fits-requires c κs = search needs
@@ -68,10 +68,9 @@ returns-3 c =
     let s = y .before in
     let a = s .args in
     let e = sym (z .start-zone .ensures) ∙ v .start .given .1 in
-    let b = all-bytes (a .map .now) (λ n. y .slice-known .given n .fits) in
-    let t = sym (f .first-touching .ensures) ∙ d .enum-told .given .1 in
+    let w = map-editable (s .pre) (all-bytes (a .map .now) (λ n. y .slice-known .given n .fits)) (sym (f .first-touching .ensures) ∙ d .enum-told .given .1) in
     let r = c .before .list-fits in
-    list-refuses (s .pre) (a .id) (a .list .now) (i .if1 .left) e b t (k .count-zones .ensures) (c .before .before .if2 .left) (r .ensures) (not-true (r .result) (c .if3 .taken))
+    list-refuses (s .pre) (a .id) (a .list .now) (i .if1 .left) e w (k .count-zones .ensures) (c .before .before .if2 .left) (r .ensures) (not-true (r .result) (c .if3 .taken))
 
 place-list-requires : tie.Need-place-list-requires
 place-list-requires c κs =
@@ -85,10 +84,9 @@ place-list-requires c κs =
     let s = y .before in
     let a = s .args in
     let e = sym (z .start-zone .ensures) ∙ v .start .given .1 in
-    let b = all-bytes (a .map .now) (λ n. y .slice-known .given n .fits) in
-    let t = sym (f .first-touching .ensures) ∙ d .enum-told .given .1 in
+    let w = map-editable (s .pre) (all-bytes (a .map .now) (λ n. y .slice-known .given n .fits)) (sym (f .first-touching .ensures) ∙ d .enum-told .given .1) in
     let r = c .before .before .list-fits in
-    place-asks (s .pre) (a .id) (a .list .now) (i .if1 .left) e b t (k .count-zones .ensures) (c .before .before .before .if2 .left) (r .ensures) (not-false (r .result) (c .before .if3 .left))
+    place-asks (s .pre) (a .id) (a .list .now) (i .if1 .left) e w (k .count-zones .ensures) (c .before .before .before .if2 .left) (r .ensures) (not-false (r .result) (c .before .if3 .left))
 
 returns-4 : tie.Need-returns-4
 returns-4 c =

@@ -2,7 +2,8 @@
 use mathlib.Core.Path.{sym, _∙_}
 use borrow.Author.Tests.{not-true, not-false}
 use Rattle.bits.proofs.Bytes.{all-bytes}
-use Rattle.release.proofs.Answers.{not-named, touching-refuses, map-editable}
+use Rattle.holes.proofs.EditableMap.{map-editable}
+use Rattle.release.proofs.Answers.{not-named, touching-refuses}
 use borrow.Author.Needs.{needs}
 use Rattle.release.proofs.release_checked.Statement.{statement}
 use Rattle.release.proofs.release_checked.Tie as tie
@@ -34,7 +35,6 @@ release-listed-requires c κs =
     let k = i .before .before in
     let s = k .before in
     let a = s .args in (
-      s .pre,
       map-editable (s .pre) (all-bytes (a .map .now) (λ n. k .slice-known .given n .fits)) (sym (f .first-touching .ensures) ∙ d .enum-told .given .1),
       sym (i .is-id .ensures) ∙ not-false (i .is-id .result) (e .if1 .left),
     )

@@ -1,23 +1,21 @@
--- With no fragment of the object the block is left alone, else the block writer is lent it with an empty list.
-use mathlib.Core.Path.{sym, _∙_}
+-- A zone that is not marked is left alone, else the block writer is lent it with an empty list.
+use Prim.Native.Nat.{ℕ}
+use mathlib.Core.Path.{sym, ap, _∙_}
+use mathlib.Core.Bool.{Bool, cond}
 use native.Mathlib.Omega.{arith}
-use Rattle.release.proofs.ZoneCounted.{not-touched, block-kept, is-touched, block-written}
+use borrow.Author.Tests.{not-true, not-false}
+use Rattle.release.specs.Zones.{zoneAfter}
+use Rattle.release.proofs.Releasing.{block-written}
 use borrow.Author.Needs.{needs}
 use Rattle.release.proofs.release_zone.Statement.{statement}
 use Rattle.release.proofs.release_zone.Tie as tie
 
-count-zone-requires : tie.Need-count-zone-requires
-count-zone-requires c κs = search needs
-
-same-length : tie.Need-same-length
-same-length c = search needs
-
 returns : tie.Need-returns
 returns c =
-    let n = c .before in
-    let a = n .before .before .before .args in (
-      sym (block-kept (a .g) (a .z) (a .gone) (a .block .now) (n .count-zone .result) (n .count-zone .ensures .0) (c .if1 .taken) (a .touched) (a .i)),
-      omega (arith, not-touched (a .g) (a .z) (a .gone) (a .block .now) (n .count-zone .result) (n .count-zone .ensures .0) (c .if1 .taken)),
+    let a = c .before .before .args in
+    let e = not-true (a .marked) (c .if1 .taken) in (
+      sym (ap (λ (x : Bool). zoneAfter (a .g) (a .z) (a .gone) x (a .touched) (a .i) (a .block .now)) e),
+      omega (arith, ap {B = ℕ} (λ (x : Bool). cond x 1 0) e),
     )
 
 sub-edit-zone : tie.Need-sub-edit-zone
@@ -38,26 +36,24 @@ edit-zone-requires c κs = search needs
 add-result : tie.Need-add-result
 add-result c = search needs
 
-same-length-2 : tie.Need-same-length-2
-same-length-2 c = search needs
+same-length : tie.Need-same-length
+same-length c = search needs
 
 returns-2 : tie.Need-returns-2
 returns-2 c =
     let w = c .before .before in
     let x = w .before in
     let i = x .before .before .before .before in
-    let n = i .before in
-    let a = n .before .before .before .args in (
-      w .edit-zone .ensures ∙ sym (block-written (a .g) (a .z) (a .gone) (a .block .now) (n .count-zone .result) (n .count-zone .ensures .0) (i .if1 .left) (a .touched) (a .i) _ (x .cross-change .ensures)),
-      omega (arith, is-touched (a .g) (a .z) (a .gone) (a .block .now) (n .count-zone .result) (n .count-zone .ensures .0) (i .if1 .left)),
+    let a = i .before .before .args in
+    let e = not-false (a .marked) (i .if1 .left) in (
+      w .edit-zone .ensures ∙ sym (block-written (a .g) (a .z) (a .gone) (a .marked) e (a .touched) (a .i) _ (x .cross-change .ensures) (a .block .now)),
+      omega (arith, ap {B = ℕ} (λ (x : Bool). cond x 1 0) e),
     )
 
 pub release-zone-spec : {M : Type 1} → statement M
 release-zone-spec =
     tie.close
     (tie.spec
-    count-zone-requires
-    same-length
     returns
     sub-edit-zone
     part-edit-zone-start
@@ -65,5 +61,5 @@ release-zone-spec =
     cross-change-requires
     edit-zone-requires
     add-result
-    same-length-2
+    same-length
     returns-2)

@@ -9,44 +9,48 @@ use Rattle.writer.proofs.next_listed.Tie as tie
 returns : tie.Need-returns
 returns c = let a = c .before .before .args in none-listed (a .list .now) (a .j) (a .low) (a .end) (c .if1 .taken)
 
-mul-in-block : tie.Need-mul-in-block
-mul-in-block c = search needs
+mul-t5 : tie.Need-mul-t5
+mul-t5 c = search needs
 
-shared-slice-read-in-block : tie.Need-shared-slice-read-in-block
-shared-slice-read-in-block c = search needs
+shared-slice-read-t9 : tie.Need-shared-slice-read-t9
+shared-slice-read-t9 c = search needs
 
-in-block-requires : tie.Need-in-block-requires
-in-block-requires c κs = search needs
+cast-t10 : tie.Need-cast-t10
+cast-t10 c = omega (arith, c .shared-slice-known2 .given (c .before .before .before .args .j))
 
-add-t10 : tie.Need-add-t10
-add-t10 c = search needs
+block-bit-requires : tie.Need-block-bit-requires
+block-bit-requires c κs = omega (arith, c .shared-slice-known2 .given (c .before .before .before .args .j))
 
-mul-t11 : tie.Need-mul-t11
-mul-t11 c = search needs
+add-t12 : tie.Need-add-t12
+add-t12 c = search needs
 
-shared-slice-read-t13 : tie.Need-shared-slice-read-t13
-shared-slice-read-t13 c = search needs
+mul-t13 : tie.Need-mul-t13
+mul-t13 c = search needs
 
-cast-t14 : tie.Need-cast-t14
-cast-t14 c = omega (arith, c .shared-slice-known3 .given (c .before .before .before .before .before .args .j + 1))
+shared-slice-read-t15 : tie.Need-shared-slice-read-t15
+shared-slice-read-t15 c = search needs
+
+cast-t16 : tie.Need-cast-t16
+cast-t16 c = omega (arith, c .shared-slice-known3 .given (c .before .before .before .before .before .args .j + 1))
 
 returns-2 : tie.Need-returns-2
 returns-2 c =
     let i = c .before in
     let s = i .before .before .before .before in
     let a = s .args in
-    next-listed (a .list .now) (a .j) (a .low) (a .end) (i .in-block .result) (omega (arith, s .pre, i .before .before .if1 .left)) (i .in-block .ensures)
+    next-listed (a .list .now) (a .j) (a .low) (a .end) (i .block-bit .result .0) (omega (arith, s .pre, i .before .before .if1 .left)) (i .block-bit .ensures)
 
 pub next-listed-spec : {M : Type 1} → statement M
 next-listed-spec =
     tie.close
     (tie.spec
     returns
-    mul-in-block
-    shared-slice-read-in-block
-    in-block-requires
-    add-t10
-    mul-t11
-    shared-slice-read-t13
-    cast-t14
+    mul-t5
+    shared-slice-read-t9
+    cast-t10
+    block-bit-requires
+    add-t12
+    mul-t13
+    shared-slice-read-t15
+    cast-t16
     returns-2)

@@ -9,7 +9,7 @@ use borrow.Author.Tests.{le-leb, lt-leb, eq-eqb, ne-eqb}
 use Rattle.fragment.specs.Found.{fragmentAt}
 use Rattle.fragment.specs.declared.Found.the-variants as found
 use Rattle.geometry.specs.Places.{endBit}
-use Rattle.model.specs.Verdict.{zoneRead}
+use Rattle.model.specs.Check.{zoneRead}
 use Rattle.zone.specs.Walk.{holderOf, entryHolds, verdictOf}
 use Rattle.zone.proofs.AllocBits.{ZoneBlock, whole-fits}
 use Rattle.zone.proofs.JudgeWalk.{JudgedSoFar, atEnd, judge-starts, judge-turn, judge-breaks, judge-ends}
