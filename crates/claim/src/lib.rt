@@ -26,6 +26,7 @@ ghost use Rattle.claim.specs.Claimed.{Claims};
 ghost use Rattle.claim.specs.Given.{PieceFits};
 ghost use Rattle.claim.specs.Unused.{cleared, holdersIn, holdersOf, holdersFrom};
 
+// The id and the piece that it was given, or a refusal.
 pub enum Claimed {
     Piece { id: u32, start: u32, len: u32 },
     Refused(Refusal),

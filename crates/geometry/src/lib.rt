@@ -9,7 +9,7 @@ ghost use lib.ListN.{length};
 ghost use Rattle.geometry.specs.Record.{clusterOf, geometryFrom, zoneSpare, discSize};
 ghost use Rattle.geometry.specs.Ranges.{FieldRules, between, fieldsFit, geometryFits};
 ghost use Rattle.geometry.specs.Accepted.{SmallNumbers, AcceptedGeometry};
-ghost use Rattle.geometry.specs.Places.{firstBit, endBit, discBit, zoneOf, discBits, idFrom};
+ghost use Rattle.geometry.specs.Places.{firstBit, endBit, discBit, zoneOf, zoneFrom, discBits, idFrom};
 ghost use Rattle.geometry.specs.Answers.{recordOf, startOf};
 ghost use Rattle.geometry.specs.Laws.{GeometryLaws};
 
@@ -139,6 +139,15 @@ impl Geometry {
         ensures { λ r. ⌜ r ≡ discBits self ⌝ }
     {
         self.zones * self.bits - 480
+    }
+
+    // The first disc bit of zone z, which is that of block bit 32, or of 512 in zone 0; of the number after the last zone, the
+    // disc bit where the map ends.
+    pub fn first_disc_bit(self, z: usize) -> DiscBit
+        requires { ⌜ AcceptedGeometry self × (z ≤ 65536) ⌝ }
+        ensures { λ r. ⌜ r .0 ≡ zoneFrom self z ⌝ }
+    {
+        DiscBit(minus(z * self.bits, 480))
     }
 
     // The disc bit of a block bit.

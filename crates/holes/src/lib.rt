@@ -21,6 +21,7 @@ pub enum Touching {
     Zone(u32),
 }
 
+// A hole by its first disc bit and its length, or none.
 pub enum Hole {
     None,
     At(u32, u32),
@@ -54,6 +55,7 @@ fn none_touch(block: &[u8], z: usize, g: Geometry) -> bool
     apart_lines(&lines, n)
 }
 
+// Whether no two free ones of n lines follow each other.
 fn apart_lines(lines: &[u32], n: usize) -> bool
     requires { ⌜ 3 * n ≤ length (now lines) ⌝ }
     ensures { λ r. ⌜ r ≡ apartLines false (take (3 * n) (now (lines .entry))) ⌝ }
@@ -94,6 +96,7 @@ pub fn first_hole(map: &[u8], g: Geometry, need: usize) -> Hole
     Hole::None
 }
 
+// The first such hole of zone z.
 fn hole_in_zone(block: &[u8], z: usize, g: Geometry, need: usize) -> Hole
     requires { ⌜ SoundZone g z (now block) ⌝ }
     ensures { λ r. ⌜ r ≡ holeOf (firstHole need (inDiscBits g z (heldBy 0 (entriesIn g z (now (block .entry)))))) ⌝ }
@@ -103,6 +106,7 @@ fn hole_in_zone(block: &[u8], z: usize, g: Geometry, need: usize) -> Hole
     hole_in_lines(&lines, n, need)
 }
 
+// The first such hole among a zone's lines.
 fn hole_in_lines(lines: &[u32], n: usize, need: usize) -> Hole
     requires { ⌜ 3 * n ≤ length (now lines) ⌝ }
     ensures { λ r. ⌜ r ≡ holeOf (firstHole need (pairsIn 0 (take (3 * n) (now (lines .entry))))) ⌝ }

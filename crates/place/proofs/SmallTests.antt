@@ -2,8 +2,8 @@
 -- object order.
 use mathlib.Core.Path.{_≡_}
 use mathlib.Core.Bool.{Bool, true, false, cond, _&&_}
-use Prim.Native.Nat.{ℕ, suc, _+_, _*_, _<_, _≤_}
-use native.Mathlib.Nat.{mul-le-mul, suc-mul, div-lt-iff-lt-mul}
+use Prim.Native.Nat.{ℕ, suc, _+_, _<_, _≤_}
+use native.Mathlib.Nat.{suc-mul, div-lt-iff-lt-mul}
 use native.Mathlib.Numerals.{add-one}
 use native.Mathlib.Omega.{arith}
 use lib.Dec.{eqb, ltb, leb}
@@ -40,10 +40,6 @@ before-end k end x h = rw (lt-ltb k end h)
 -- where a zone ends the next one starts
 pub next-zone : (g : Geometry) (z : ℕ) → zoneFrom g (z + 1) ≡ zoneEnd g z
 next-zone g z = rw add-one
-
--- numbers of a zone are small
-pub zone-product : (g : Geometry) (z : ℕ) → AcceptedGeometry g → z ≤ 65536 → z * g .bits ≤ 534773760
-zone-product g z ok h = omega (arith, mul-le-mul h (ok .bits-high))
 
 pub zone-small : (g : Geometry) (d : ℕ) → AcceptedGeometry g → d ≤ discBits g → zoneOf g d + 1 ≤ 65536
 zone-small g d ok h =

@@ -33,6 +33,7 @@ ghost use Rattle.place.specs.Asked.{PlaceAsks, WriteAsks, ZoneAsks, zone
 ghost use Rattle.runs.specs.Editable.{piecesOn};
 ghost use Rattle.model.specs.Chain.{pair};
 
+// The pieces are placed, or a refusal.
 pub enum Placed {
     Done,
     Refused(Refusal),
@@ -84,7 +85,7 @@ fn place_list(map: &mut [u8], g: Geometry, id: u32, start: usize, list: &[u32]) 
     requires { ⌜ PlaceAsks (now map) g id start (now list) ⌝ }
     ensures { λ r. ⌜ Places (now (map .entry)) id (now (list .entry)) r (now (map .exit)) ⌝ }
 {
-    let late = part_end(list, 0, zone_start(g, start), g.disc_bits());
+    let late = part_end(list, 0, g.first_disc_bit(start).0, g.disc_bits());
     let judged = judge_zones(map, g, start, late, list);
     if !judged.fits {
         return Placed::Refused(Refusal {
@@ -145,15 +146,7 @@ fn in_one_zone(g: Geometry, start: usize, end: usize) -> bool
     if g.disc_bits() < end {
         return false;
     }
-    end <= zone_start(g, g.zone_of(DiscBit(start)) + 1)
-}
-
-// The disc bit where zone z starts; of the number after the last zone, where the disc map ends.
-fn zone_start(g: Geometry, z: usize) -> usize
-    requires { ⌜ AcceptedGeometry g × (z ≤ 65536) ⌝ }
-    ensures { λ r. ⌜ r ≡ zoneFrom g z ⌝ }
-{
-    bits::minus(z * g.bits, 480)
+    end <= g.first_disc_bit(g.zone_of(DiscBit(start)) + 1).0
 }
 
 // A disc bit's place in object order: bits before the start zone count on round the end of the disc.
@@ -195,8 +188,8 @@ fn next_part(g: Geometry, list: &[u32], start: usize, z: usize, i: usize) -> Par
     ensures { λ r. ⌜ IsPart g (now (list .entry)) z (r .from) (r .to) × Walking g (now (list .entry)) start (z + 1) (r .to) ⌝ }
 {
     let from = part_start(z, start, i);
-    let low = zone_start(g, z);
-    let high = zone_start(g, z + 1);
+    let low = g.first_disc_bit(z).0;
+    let high = g.first_disc_bit(z + 1).0;
     let to = part_end(list, from, low, high);
     Part { from, to }
 }
@@ -259,8 +252,8 @@ fn zone_fits(block: &[u8], z: usize, g: Geometry, list: &[u32]) -> bool
     }
     let mut lines = [0u32; 2048];
     let n = zone::list_zone(block, z, g, &mut lines);
-    let low = zone_start(g, z);
-    let high = zone_start(g, z + 1);
+    let low = g.first_disc_bit(z).0;
+    let high = g.first_disc_bit(z + 1).0;
     lines_fit(&lines, n, list, g.shortest, low, high)
 }
 

@@ -26,7 +26,8 @@ fn next_case() -> bool {
     true
 }
 
-// Lends a case its buffers: what it starts with, and what the call works on.
+// Lends a case its buffers: what it starts with, and what the call works on. They are as long as the largest map, list and image of a
+// stored case. The parts are cut one after another, each in a function of its own, so that every proof has few loans to follow.
 fn run_case(head: &[u8; 32]) {
     let mut old_map = [0u8; 32768];
     let mut map = [0u8; 32768];

@@ -18,23 +18,24 @@ returns c = let a = c .before .before .args in off-disc (a .end) (discBits (a .g
 zone-of-requires : tie.Need-zone-of-requires
 zone-of-requires c κs = let s = c .before .before in (s .pre .0, omega (arith, s .pre .1, c .if1 .left, c .before .disc-bits .ensures))
 
-add-zone-start : tie.Need-add-zone-start
-add-zone-start c =
+add-first-disc-bit : tie.Need-add-first-disc-bit
+add-first-disc-bit c =
     let s = c .before .before .before in
     omega (arith, c .zone-of .ensures, zone-small (s .args .g) (s .args .start) (s .pre .0) (omega (arith, s .pre .1, c .before .if1 .left, c .before .before .disc-bits .ensures)))
 
-zone-start-requires : tie.Need-zone-start-requires
-zone-start-requires c κs =
+first-disc-bit-requires : tie.Need-first-disc-bit-requires
+first-disc-bit-requires c κs =
     let s = c .before .before .before in
     (s .pre .0, omega (arith, c .zone-of .ensures, zone-small (s .args .g) (s .args .start) (s .pre .0) (omega (arith, s .pre .1, c .before .if1 .left, c .before .before .disc-bits .ensures))))
 
 returns-2 : tie.Need-returns-2
 returns-2 c =
-    let s = c .before .before .before .before in
+    let f = c .before in
+    let s = f .before .before .before .before in
     let a = s .args in
-    let h : a .end ≤ discBits (a .g) = omega (arith, c .before .before .if1 .left, c .before .before .before .disc-bits .ensures) in
-    let e : c .zone-start .result ≡ zoneEnd (a .g) (zoneOf (a .g) (a .start)) =
-    c .zone-start .ensures ∙ next-zone (a .g) (c .before .zone-of .result) ∙ ap (zoneEnd (a .g)) (c .before .zone-of .ensures) in
+    let h : a .end ≤ discBits (a .g) = omega (arith, f .before .before .if1 .left, f .before .before .before .disc-bits .ensures) in
+    let e : f .first-disc-bit .result .0 ≡ zoneEnd (a .g) (zoneOf (a .g) (a .start)) =
+    f .first-disc-bit .ensures ∙ next-zone (a .g) (f .before .zone-of .result) ∙ ap (zoneEnd (a .g)) (f .before .zone-of .ensures) in
     ap (leb (a .end)) e ∙ on-disc (a .end) (discBits (a .g)) _ h
 
 pub in-one-zone-spec : {M : Type 1} → statement M
@@ -44,6 +45,6 @@ in-one-zone-spec =
     disc-bits-requires
     returns
     zone-of-requires
-    add-zone-start
-    zone-start-requires
+    add-first-disc-bit
+    first-disc-bit-requires
     returns-2)

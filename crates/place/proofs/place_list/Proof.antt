@@ -8,8 +8,8 @@ use borrow.Author.Needs.{needs}
 use Rattle.place.proofs.place_list.Statement.{statement}
 use Rattle.place.proofs.place_list.Tie as tie
 
-zone-start-requires : tie.Need-zone-start-requires
-zone-start-requires c κs = let s = c .before .before in (s .pre .editable .accepted .numbers, start-small (s .pre))
+first-disc-bit-requires : tie.Need-first-disc-bit-requires
+first-disc-bit-requires c κs = let s = c .before .before in (s .pre .editable .accepted .numbers, start-small (s .pre))
 
 disc-bits-requires : tie.Need-disc-bits-requires
 disc-bits-requires c κs = search needs
@@ -22,7 +22,7 @@ judge-zones-requires c κs =
     let k = c .before in
     let s = k .before .before .before .before .before in
     let a = s .args in
-    (s .pre .editable, walk-found (a .g) (s .pre .editable .accepted .numbers) (a .list .now) (a .start) (list-even (s .pre)) (pairs-fit (s .pre)) (k .before .before .zone-start .ensures) (k .before .disc-bits .ensures) (k .part-end .result) (k .part-end .ensures .0))
+    (s .pre .editable, walk-found (a .g) (s .pre .editable .accepted .numbers) (a .list .now) (a .start) (list-even (s .pre)) (pairs-fit (s .pre)) (k .before .before .first-disc-bit .ensures) (k .before .disc-bits .ensures) (k .part-end .result) (k .part-end .ensures .0))
 
 same-length : tie.Need-same-length
 same-length c = search needs
@@ -42,7 +42,7 @@ write-zones-requires c κs =
     let a = s .args in
     record {
       editable = s .pre .editable;
-      walks = walk-found (a .g) (s .pre .editable .accepted .numbers) (a .list .now) (a .start) (list-even (s .pre)) (pairs-fit (s .pre)) (k .before .before .zone-start .ensures) (k .before .disc-bits .ensures) (k .part-end .result) (k .part-end .ensures .0);
+      walks = walk-found (a .g) (s .pre .editable .accepted .numbers) (a .list .now) (a .start) (list-even (s .pre)) (pairs-fit (s .pre)) (k .before .before .first-disc-bit .ensures) (k .before .disc-bits .ensures) (k .part-end .result) (k .part-end .ensures .0);
       judged = room (s .pre) (j .judge-zones .ensures .0 (a .id)) (not-false (j .judge-zones .result .fits) (o .if1 .left));
       count = j .judge-zones .ensures .1;
     }
@@ -62,7 +62,7 @@ pub place-list-spec : {M : Type 1} → statement M
 place-list-spec =
     tie.close
     (tie.spec
-    zone-start-requires
+    first-disc-bit-requires
     disc-bits-requires
     part-end-requires
     judge-zones-requires

@@ -16,14 +16,14 @@ slice-aggregate-list-zone c = search needs
 list-zone-requires : tie.Need-list-zone-requires
 list-zone-requires c κs = let r = c .before .before .before .before .pre .read in (r .numbers, r .zone, r .sized, r .kept, few-entries r)
 
-zone-start-requires : tie.Need-zone-start-requires
-zone-start-requires c κs = search needs
+first-disc-bit-requires : tie.Need-first-disc-bit-requires
+first-disc-bit-requires c κs = search needs
 
-add-zone-start : tie.Need-add-zone-start
-add-zone-start c = search needs
+add-first-disc-bit : tie.Need-add-first-disc-bit
+add-first-disc-bit c = search needs
 
-zone-start-requires-2 : tie.Need-zone-start-requires-2
-zone-start-requires-2 c κs = search needs
+first-disc-bit-requires-2 : tie.Need-first-disc-bit-requires-2
+first-disc-bit-requires-2 c κs = search needs
 
 slice-aggregate-lines-fit : tie.Need-slice-aggregate-lines-fit
 slice-aggregate-lines-fit c = search needs
@@ -33,7 +33,7 @@ lines-fit-requires c κs =
     let d = c .before .before .before .before in
     let s = d .before .before .before .before .before in
     let l = d .list-zone in
-    merge-starts (s .pre) (l .result) (l .last .1 .1 .1 .0) _ (l .ensures .0) (l .ensures .1) (omega (arith, l .ensures .0, few-entries (s .pre .read), l .kept .1 .1 .1 .0)) (c .before .before .zone-start .ensures)
+    merge-starts (s .pre) (l .result) (l .last .1 .1 .1 .0) _ (l .ensures .0) (l .ensures .1) (omega (arith, l .ensures .0, few-entries (s .pre .read), l .kept .1 .1 .1 .0)) (c .before .before .first-disc-bit .ensures)
 
 returns-2 : tie.Need-returns-2
 returns-2 c =
@@ -42,7 +42,7 @@ returns-2 c =
     let o = d .before .before in
     let s = o .before .before .before in
     let l = d .list-zone in
-    λ id. c .lines-fit .ensures id ∙ zone-judged (s .pre) (l .result) (l .last .1 .1 .1 .0) _ (l .ensures .0) (l .ensures .1) (o .if1 .left) (t .before .before .zone-start .ensures) (t .before .zone-start2 .ensures) id
+    λ id. c .lines-fit .ensures id ∙ zone-judged (s .pre) (l .result) (l .last .1 .1 .1 .0) _ (l .ensures .0) (l .ensures .1) (o .if1 .left) (t .before .before .first-disc-bit .ensures) (t .before .first-disc-bit2 .ensures) id
 
 pub zone-fits-spec : {M : Type 1} → statement M
 zone-fits-spec =
@@ -51,9 +51,9 @@ zone-fits-spec =
     returns
     slice-aggregate-list-zone
     list-zone-requires
-    zone-start-requires
-    add-zone-start
-    zone-start-requires-2
+    first-disc-bit-requires
+    add-first-disc-bit
+    first-disc-bit-requires-2
     slice-aggregate-lines-fit
     lines-fit-requires
     returns-2)
