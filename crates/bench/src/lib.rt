@@ -1,5 +1,5 @@
 // Document 01's bench examples: one table of questions and answers (specs/Table), and one statement over it. And what the examples
-// shut out: programs that refuse always, answer always the same, write nothing or everywhere (specs/Empty).
+// shut out: programs that refuse always, answer always the same or write nothing, and sweeps that write everywhere (specs/Empty).
 ghost use mathlib.Core.Path.{_≡_};
 ghost use mathlib.Core.List.{map};
 ghost use Rattle.bench.specs.Table.{table, answered, expected};

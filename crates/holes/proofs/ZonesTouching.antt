@@ -6,13 +6,9 @@ use mathlib.Core.List.{List, [], _∷_}
 use mathlib.Core.Option.{Option, none, some}
 use Prim.Native.Nat.{ℕ, suc, _+_, _<_, _≤_}
 use native.Mathlib.Omega.{arith}
-use lib.Dec.{ltb}
-use borrow.Author.Tests.{ltb-true, ltb-false}
-use Rattle.bits.proofs.Tests.{by-test}
 use Rattle.geometry.specs.declared.Geometry.{Geometry}
 use Rattle.model.specs.Chain.{Entry, noneTouch}
 use Rattle.model.specs.Rules.{zoneBlock}
-use Rattle.model.proofs.Options.{none-some}
 use Rattle.zone.specs.Lines.{entriesIn}
 use Rattle.zone.proofs.EntriesRead.{is-read}
 use Rattle.map.specs.Accepted.{AcceptedMap}
@@ -72,20 +68,3 @@ module _ (m : List ℕ) (g : Geometry) (z : ℕ) where
       go : (ess : List (List Entry)) → ReadInTurn m g z ess → touching z ess ≡ none
       go [] r = refl
       go (es ∷ ess) r = absurd (omega arith)
-
--- none told, so none there
-apart-from : (m : List ℕ) (g : Geometry) (z : ℕ) (ess : List (List Entry)) → ReadInTurn m g z ess → touching z ess ≡ none
-    → (i : ℕ) → z ≤ i → i < g .zones → noneTouch false (entriesIn g i (zoneBlock g m i)) ≡ true
-apart-from m g z [] r t i l h = absurd (omega arith)
-apart-from m g z (es ∷ ess) r t i l h =
-    let e : entriesIn g z (zoneBlock g m z) ≡ es = is-read g z (zoneBlock g m z) es (r .1) .0 in
-    by-test (noneTouch false es)
-    (λ k. by-test (ltb z i)
-    (λ u. apart-from m g (suc z) ess (r .2) (simp k at t) i (ltb-true z i u) h)
-    (λ u. let q : z ≡ i = omega (arith, ltb-false) in
-    subst (λ (x : ℕ). noneTouch false (entriesIn g x (zoneBlock g m x)) ≡ true) q (ap (noneTouch false) e ∙ k)))
-    (λ k. absurd (none-some (sym (simp k at t))))
-
-pub none-touching : {m : List ℕ} {g : Geometry} → AcceptedMap m g → touching 0 (zonesOf m) ≡ none
-    → (z : ℕ) → z < g .zones → noneTouch false (entriesIn g z (zoneBlock g m z)) ≡ true
-none-touching {m} {g} a t z h = apart-from m g 0 (a .zones) (zones-in-turn a) (ap (touching 0) (sym (zones-are a)) ∙ t) z (omega arith) h

@@ -130,7 +130,7 @@ pub fn write_zones(
 }
 
 // How many fragments a holder has in zone z.
-pub fn count_zone(block: &[u8], z: usize, g: Geometry, holder: u32) -> usize
+fn count_zone(block: &[u8], z: usize, g: Geometry, holder: u32) -> usize
     requires { ⌜ SoundZone g z (now block) ⌝ }
     ensures { λ r. ⌜ (r ≡ length (heldBy holder (entriesIn g z (now (block .entry))))) × (r ≤ 683) ⌝ }
 {

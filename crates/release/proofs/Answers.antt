@@ -16,7 +16,7 @@ use Rattle.calls.specs.Edits.{takes}
 use Rattle.calls.specs.Judge.{editable, judge}
 use Rattle.calls.specs.Judge as call
 use Rattle.runs.specs.Steps.{Outcome, touching, refused, outcome, bytesAfter, step}
-use Rattle.runs.specs.Editable.{zonesOf, piecesOn}
+use Rattle.runs.specs.Editable.{zonesOf, piecesOn, objectOn}
 use Rattle.listing.specs.Listed.{PairsFound, present, objectFound, Lists}
 use Rattle.listing.specs.Listed as list
 use Rattle.listing.specs.declared.Listed.{Listed}
@@ -26,7 +26,7 @@ use Rattle.holes.specs.EditableMap.{EditableMap}
 use Rattle.holes.specs.declared.Touching.the-variants as told
 use Rattle.holes.proofs.Outcomes.{check-refused, id-refused, touching-refused, judged-refused, judged-done}
 use Rattle.release.specs.Released.{pairsTaken, Releases}
-use Rattle.release.specs.Zones.{objectOn, ReleasedMap}
+use Rattle.release.specs.Zones.{ReleasedMap}
 use Rattle.release.proofs.ReleasedBytes.{released-bytes}
 use Rattle.release.proofs.ListedVerdict.{verdictOf, judged-as-listed, refused-told, found-told, found-is}
 

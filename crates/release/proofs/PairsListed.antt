@@ -21,12 +21,12 @@ use Rattle.model.proofs.Lists.{length-numbers}
 use Rattle.calls.specs.Judge.{pairsFrom}
 use Rattle.calls.proofs.Kept.{All, all-keep, all-append}
 use Rattle.calls.proofs.Returned.{pairs-numbers}
-use Rattle.runs.specs.Editable.{piecesOn}
+use Rattle.runs.specs.Editable.{piecesOn, objectOn}
 use Rattle.holes.specs.EditableMap.{EditableMap}
 use Rattle.holes.proofs.EditableMap.{map-pieces}
 use Rattle.listing.specs.Listed.{found, Lists}
 use Rattle.listing.specs.declared.Listed.the-variants as listed
-use Rattle.release.specs.Zones.{firstPairs, objectOn, MarkAsks}
+use Rattle.release.specs.Zones.{firstPairs, MarkAsks}
 
 -- a pair that lies in a zone of the map
 abbrev pub isZoned : Geometry → Pair → Bool

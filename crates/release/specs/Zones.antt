@@ -12,21 +12,16 @@ use Rattle.geometry.specs.declared.Geometry.{Geometry}
 use Rattle.geometry.specs.Accepted.{AcceptedGeometry}
 use Rattle.geometry.specs.Places.{zoneOf, firstBit, endBit}
 use Rattle.model.specs.Chain.{Pair}
-use Rattle.model.specs.Pieces.{ownedOf, objectPairs}
+use Rattle.model.specs.Pieces.{ownedOf}
 use Rattle.model.specs.Rules.{zoneBlock}
 use Rattle.calls.specs.Edits.{without, touches, touchedFrom, touchedZones}
 use Rattle.calls.specs.Judge.{pairsFrom}
-use Rattle.runs.specs.Editable.{piecesOn}
 use Rattle.runs.specs.Written.{written}
 use Rattle.zone.specs.Lines.{entriesIn}
 
 -- the first n pairs of a list
 abbrev pub firstPairs : ℕ → List ℕ → List Pair
 firstPairs n pairs = pairsFrom (take (2 * n) pairs)
-
--- an object's pairs on a map
-abbrev pub objectOn : Geometry → List ℕ → ℕ → List Pair
-objectOn g m id = objectPairs g id (piecesOn g m)
 
 -- n pairs that lie in zones of the map, and a bit for each zone, not yet marked
 pub record MarkAsks (g : Geometry) (pairs : List ℕ) (n : ℕ) (marks : List ℕ) : Type 0 where

@@ -17,7 +17,8 @@ ghost use Rattle.calls.specs.Judge.{editable};
 ghost use Rattle.writer.specs.ZoneEdit.{ZoneEdit};
 ghost use Rattle.holes.specs.EditableMap.{EditableMap};
 ghost use Rattle.release.specs.Released.{Releases};
-ghost use Rattle.release.specs.Zones.{firstPairs, objectOn, MarkAsks, TouchedMarked, zoneAfter, ReleasedMap};
+ghost use Rattle.release.specs.Zones.{firstPairs, MarkAsks, TouchedMarked, zoneAfter, ReleasedMap};
+ghost use Rattle.runs.specs.Editable.{objectOn};
 
 // Releases an object. Refused: 1 to 7 as `map::check`, 8, 9, 10, 17; a refusal changes no byte of map or list.
 pub fn release(map: &mut [u8], id: u32, pairs: &mut [u32]) -> Listed

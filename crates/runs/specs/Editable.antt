@@ -36,8 +36,11 @@ pub record Editable (m : List ℕ) : Type 0 where
   pub apart : touching 0 (zonesOf m) ≡ none
 
 -- an object's pieces as pairs, as the listing call shows them; "it is there if it has any"
+abbrev pub objectOn : Geometry → List ℕ → ℕ → List Pair
+objectOn g m id = objectPairs g id (piecesOn g m)
+
 abbrev pub listedOn : List ℕ → ℕ → List Pair
-listedOn m id = objectPairs (geometryOf m) id (piecesOn (geometryOf m) m)
+listedOn m id = objectOn (geometryOf m) m id
 
 -- the object that an edit names, and its pieces before and after
 abbrev pub NamedMoved : List ℕ → Edit → List ℕ → Type 0

@@ -2,11 +2,11 @@
 use Prim.Native.Nat.{_-_}
 use mathlib.Core.Path.{_∙_}
 use native.Mathlib.Omega.{arith}
-use Rattle.release.specs.Zones.{objectOn}
 use Rattle.release.proofs.Releasing.{Releasing, releasing-starts, releasing-ends, block-ends, zone-edit, releasing-turn}
 use borrow.Author.Needs.{needs}
 use Rattle.release.proofs.release_zones.Statement.{statement}
 use Rattle.release.proofs.release_zones.Tie as tie
+use Rattle.runs.specs.Editable.{objectOn}
 
 abbrev Inv-loop : tie.InvT-loop
 Inv-loop map₀ g gone marks touched zones size i₀ z₀ map i z = Releasing g gone (objectOn g map₀ gone) map₀ map i z
