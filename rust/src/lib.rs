@@ -29,7 +29,7 @@ pub use calls::{address, check, claim, free, list, place, release, sweep_free, s
 pub use refusal::{Reason, Refusal};
 
 /// What a claim gave: a new object of one piece.
-#[derive(Clone, Copy, Debug, PartialEq, Eq)]
+#[derive(Clone, Copy, Debug, Default, PartialEq, Eq)]
 pub struct Claimed {
     /// The id, which was unused before.
     pub id: u32,
