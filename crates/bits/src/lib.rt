@@ -71,9 +71,35 @@ pub fn write_number(s: &mut [u8], at: usize, n: usize, v: u32)
     let mut w = v;
     let mut i = 0;
     while i < n {
-        write_bit(s, at + i, w % 2 == 1);
-        w = w / 2;
-        i += 1;
+        let part = write_some(s, at + i, n - i, w);
+        w = part.left;
+        i += part.bits;
+    }
+}
+
+// How many bits of a number were written, and what is left of it.
+struct Part {
+    bits: usize,
+    left: u32,
+}
+
+// The lowest bits of w, written from bit b on: 8 where they are a byte and n leaves room for it, and else one.
+fn write_some(s: &mut [u8], b: usize, n: usize, w: u32) -> Part
+    requires { ⌜ (0 < n) × (b + n ≤ length (now s) * 8) × (b + n < 2 ^ 64) ⌝ }
+    ensures room { λ r. ⌜ (0 < r .bits) × (r .bits ≤ n) ⌝ }
+    ensures bits { λ r. ⌜ sets (byteBits (now (s .exit))) (b + r .bits) (numberBits (n - r .bits) (r .left)) ≡ sets (byteBits (now (s .entry))) b (numberBits n w) ⌝ }
+{
+    if both(b % 8 == 0, 8 <= n) {
+        s[b / 8] = (w % 256) as u8;
+        return Part {
+            bits: 8,
+            left: w / 256,
+        };
+    }
+    write_bit(s, b, w % 2 == 1);
+    Part {
+        bits: 1,
+        left: w / 2,
     }
 }
 

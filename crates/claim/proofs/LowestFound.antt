@@ -21,7 +21,7 @@ use Rattle.model.specs.Rules.{zoneBlock}
 use Rattle.model.specs.Pieces.{Piece, ownedIf, ownedOf, pieceToDisc, piecesOfZones, piecesOf}
 use Rattle.zone.specs.Lines.{entriesIn, holderNumber}
 use Rattle.zone.proofs.EntriesRead.{is-read}
-use Rattle.listing.proofs.HeldZones.{ReadInTurn, zones-in-turn}
+use Rattle.walk.proofs.ZonesRead.{ReadInTurn, zones-in-turn}
 use Rattle.calls.specs.Judge.{isEmpty, lowest}
 use Rattle.calls.proofs.Fourteen.{no-fourteen}
 use Rattle.runs.specs.Editable.{zonesOf, piecesOn}

@@ -21,8 +21,8 @@ use Rattle.model.specs.Drawing.{Drawable}
 use Rattle.model.proofs.ByPlace.{block-length}
 use Rattle.zone.specs.Lines.{entriesIn}
 use Rattle.map.specs.Accepted.{AcceptedMap}
-use Rattle.listing.specs.HeldBy.{SoundZone}
-use Rattle.listing.proofs.HeldZones.{zone-reads}
+use Rattle.walk.specs.SoundZone.{SoundZone}
+use Rattle.walk.proofs.ZonesRead.{zone-reads}
 use Rattle.listing.proofs.FreeHeld.{ids-fit}
 use Rattle.calls.specs.Edits.{without, put, own, gives, inZone, touches, touchedFrom}
 use Rattle.calls.specs.Judge.{place, accepted, judge}

@@ -8,19 +8,17 @@ use Rattle.geometry.specs.declared.Geometry.{Geometry}
 use Rattle.model.specs.Chain.{Entry}
 use Rattle.model.specs.Rules.{zoneBlock}
 use Rattle.zone.specs.Lines.{entriesIn, holderNumber}
+use Rattle.walk.specs.declared.Line.{Line}
 
 -- the bits after those of these numbers were cleared
 abbrev pub cleared : List ℕ → List Bool → List Bool
 cleared [] bits = bits
 cleared (h ∷ hs) bits = cleared hs (set bits h false)
 
--- the holders' numbers, 0 for a free fragment: of lines as `zone::list_zone` writes them, of a zone's entries, and of n zones
--- from z on
-abbrev pub holdersIn : List ℕ → List ℕ
+-- the holders' numbers, 0 for a free fragment: of lines, of a zone's entries, and of n zones from z on
+abbrev pub holdersIn : List Line → List ℕ
 holdersIn [] = []
-holdersIn (a ∷ []) = []
-holdersIn (a ∷ d ∷ []) = []
-holdersIn (a ∷ d ∷ n ∷ l) = a ∷ holdersIn l
+holdersIn (l ∷ ls) = l .holder ∷ holdersIn ls
 
 abbrev pub holdersOf : List Entry → List ℕ
 holdersOf [] = []

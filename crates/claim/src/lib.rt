@@ -10,21 +10,19 @@ ghost use mathlib.Core.Path.{_≡_};
 ghost use mathlib.Core.Bool.{cond};
 ghost use mathlib.Core.List.{[], _∷_};
 ghost use mathlib.Core.Option.{some};
-ghost use Prim.Native.Nat.{ℕ, _+_, _-_, _*_, _<_, _≤_, max};
+ghost use Prim.Native.Nat.{_+_, _-_, _*_, _<_, _≤_, max};
 ghost use lib.Dec.{ltb};
-ghost use lib.ListN.{length, getD, take};
+ghost use lib.ListN.{length};
 ghost use Rattle.bits.specs.Bits.{byteBits};
 ghost use Rattle.geometry.specs.Accepted.{AcceptedGeometry};
-ghost use Rattle.zone.specs.Lines.{entriesIn};
 ghost use Rattle.map.specs.Accepted.{AcceptedMap};
-ghost use Rattle.listing.specs.HeldBy.{SoundZone};
 ghost use Rattle.calls.specs.Judge.{need, lowest, place};
 ghost use Rattle.runs.specs.Steps.{step};
 ghost use Rattle.runs.specs.Editable.{piecesOn};
 ghost use Rattle.holes.specs.EditableMap.{EditableMap};
 ghost use Rattle.claim.specs.Claimed.{Claims};
 ghost use Rattle.claim.specs.Given.{PieceFits};
-ghost use Rattle.claim.specs.Unused.{cleared, holdersIn, holdersOf, holdersFrom};
+ghost use Rattle.claim.specs.Unused.{cleared, holdersFrom};
 
 // The id and the piece that it was given, or a refusal.
 pub enum Claimed {
@@ -121,41 +119,17 @@ fn lowest_unused(map: &[u8], g: Geometry) -> u32
     (3 + past) as u32
 }
 
-// Clears the bit of every id that the map holds.
+// Clears the bit of every id that the map holds. Bit 0 goes with the free fragments: it stands for no id.
 fn clear_used(map: &[u8], g: Geometry, unused: &mut [u8])
     requires { ⌜ AcceptedMap (now map) g × (g .ids * g .zones ≤ length (now unused) * 8) ⌝ }
     ensures { λ _. ⌜ byteBits (now (unused .exit)) ≡ cleared (holdersFrom g (now (map .entry)) 0 (g .zones)) (byteBits (now (unused .entry))) ⌝ }
 {
     let zones = g.zones;
-    let size = g.sector;
-    let mut z = 0;
-    while z < zones {
-        let a = z * size;
-        let e = a + size;
-        clear_zone(&map[a..e], z, g, unused);
-        z += 1;
-    }
-}
-
-// Clears the bit of every id in zone z.
-fn clear_zone(block: &[u8], z: usize, g: Geometry, unused: &mut [u8])
-    requires { ⌜ SoundZone g z (now block) × (g .ids * g .zones ≤ length (now unused) * 8) ⌝ }
-    ensures { λ _. ⌜ byteBits (now (unused .exit)) ≡ cleared (holdersOf (entriesIn g z (now (block .entry)))) (byteBits (now (unused .entry))) ⌝ }
-{
-    let mut lines = [0u32; 2048];
-    let n = zone::list_zone(block, z, g, &mut lines);
-    clear_lines(&lines, n, unused);
-}
-
-// Clears the bit of every line's holder. Bit 0 goes with the free lines: it stands for no id.
-fn clear_lines(lines: &[u32], n: usize, unused: &mut [u8])
-    requires { ⌜ (3 * n ≤ length (now lines)) × ((i : ℕ) → i < n → getD (now lines) (3 * i) 0 < length (now unused) * 8) ⌝ }
-    ensures { λ _. ⌜ byteBits (now (unused .exit)) ≡ cleared (holdersIn (take (3 * n) (now (lines .entry)))) (byteBits (now (unused .entry))) ⌝ }
-{
-    let mut i = 0;
-    while i < n {
-        bits::clear_bit(unused, lines[3 * i] as usize);
-        i += 1;
+    let mut w = walk::from_zone(map, g, 0);
+    while w.zone < zones {
+        let s = walk::next(map, g, w);
+        bits::clear_bit(unused, s.line.holder as usize);
+        w = s.after;
     }
 }
 

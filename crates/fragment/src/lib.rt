@@ -14,11 +14,18 @@ ghost use lib.Seq.{slice};
 ghost use Rattle.bits.specs.Bits.{byteBits, zeros};
 ghost use Rattle.model.specs.Chain.{onward};
 ghost use Rattle.fragment.specs.Found.{fragmentAt, nextAfter};
+ghost use Rattle.fragment.specs.Reading.{idAt, lengthAt};
 
 // What stands at a place: a whole fragment, or bits that break the fragment rule (refusal 6).
 pub enum Found {
     Whole { id: u32, len: usize },
     Broken,
+}
+
+// A fragment read: its id and its length.
+pub struct FragmentRead {
+    pub id: u32,
+    pub len: usize,
 }
 
 // The closing bit of a fragment whose id ends at `from`: the first 1 bit from there on, or `end` where there is none.
@@ -47,6 +54,19 @@ pub fn fragment_at(block: &[u8], at: usize, end: usize, idlen: usize, cluster: u
     }
     let id = bits::number(block, at, idlen);
     Found::Whole { id, len }
+}
+
+// The fragment at `at`, whose closing bit stands before `end`: in a zone that keeps the rules each one's does.
+pub fn whole_fragment(block: &[u8], at: usize, end: usize, idlen: usize) -> FragmentRead
+    requires { ⌜ (idlen ≤ 31) × (end ≤ length (now block) * 8) × (at + lengthAt idlen at end (byteBits (now block)) ≤ end) ⌝ }
+    ensures { λ r. ⌜ (r .id ≡ idAt idlen at (byteBits (now (block .entry)))) × (r .len ≡ lengthAt idlen at end (byteBits (now (block .entry)))) ⌝ }
+{
+    let last = closing_bit(block, at + idlen, end);
+    let id = bits::number(block, at, idlen);
+    FragmentRead {
+        id,
+        len: last + 1 - at,
+    }
 }
 
 // Where a link leads that counts from a place, or 0 where it leads nowhere.

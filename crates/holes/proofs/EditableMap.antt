@@ -13,7 +13,7 @@ use Rattle.model.specs.Check.{entries}
 use Rattle.model.specs.Pieces.{ownedOf, pieceToDisc}
 use Rattle.zone.specs.Lines.{entriesIn}
 use Rattle.map.specs.Accepted.{AcceptedMap}
-use Rattle.listing.proofs.HeldZones.{zone-entries}
+use Rattle.walk.proofs.ZonesRead.{zone-entries}
 use Rattle.calls.specs.Edits.{inZone}
 use Rattle.runs.specs.Steps.{touching}
 use Rattle.runs.specs.Editable.{zonesOf, piecesOn}

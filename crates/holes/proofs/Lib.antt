@@ -1,6 +1,5 @@
 pub mod OwnersSome
 pub mod PairsCounted
-pub mod LinesApart
 pub mod ZonesTouching
 pub mod EditableMap
 pub mod Outcomes

@@ -17,8 +17,8 @@ use Rattle.zone.specs.Lines.{entriesIn, holderNumber}
 use Rattle.map.specs.Accepted.{AcceptedMap}
 use Rattle.listing.specs.HeldBy.{heldBy, inDiscBits, heldIn, heldFrom}
 use Rattle.listing.specs.Laws.{At, first, later}
-use Rattle.listing.proofs.Lines.{length-held}
-use Rattle.listing.proofs.HeldZones.{few-entries, zone-reads}
+use Rattle.listing.proofs.HeldLines.{length-held}
+use Rattle.walk.proofs.ZonesRead.{few-entries, zone-reads}
 use Rattle.listing.proofs.Filled.{Fills, entryToDisc, disc-entries-fill}
 
 -- ascending and apart from bit `at` on, up to `end`, each with some bits

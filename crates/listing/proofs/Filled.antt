@@ -24,8 +24,8 @@ use Rattle.zone.specs.Lines.{entriesIn}
 use Rattle.zone.proofs.AllocBits.{first-high, ZoneBlock, bits-left, alloc-all}
 use Rattle.zone.proofs.EntriesRead.{is-read}
 use Rattle.map.specs.Accepted.{AcceptedMap}
-use Rattle.listing.specs.HeldBy.{SoundZone}
-use Rattle.listing.proofs.HeldZones.{ReadInTurn, zones-in-turn, zone-reads}
+use Rattle.walk.specs.SoundZone.{SoundZone}
+use Rattle.walk.proofs.ZonesRead.{ReadInTurn, zones-in-turn, zone-reads}
 
 abbrev pub Fills : ℕ → ℕ → List Entry → Type 0
 Fills at end [] = at ≡ end

@@ -18,7 +18,8 @@ use Rattle.zone.specs.Lines.{entriesIn, holderNumber}
 use Rattle.zone.proofs.EntriesRead.{is-read}
 use Rattle.map.specs.Accepted.{AcceptedMap}
 use Rattle.listing.specs.HeldBy.{heldBy, inDiscBits, heldIn, heldFrom}
-use Rattle.listing.proofs.HeldZones.{held-turn, held-end, ReadInTurn, zones-in-turn}
+use Rattle.walk.proofs.ZonesRead.{ReadInTurn, zones-in-turn}
+use Rattle.listing.proofs.HeldZones.{held-turn, held-end}
 
 -- every holder of a zone that was read is free, or owned by 1 or more
 pub ids-fit : (g : Geometry) (z : ℕ) (b : List ℕ) (es : List Entry) → zoneRead g z b ≡ sound es → every (idFits g) es ≡ true

@@ -1,5 +1,5 @@
 pub mod Stored
-pub mod Lines
+pub mod HeldLines
 pub mod HeldZones
 pub mod Filled
 pub mod Ascend

@@ -20,7 +20,8 @@ use Rattle.zone.specs.Lines.{entriesIn, holderNumber}
 use Rattle.zone.proofs.EntriesRead.{is-read}
 use Rattle.map.specs.Accepted.{AcceptedMap}
 use Rattle.listing.specs.HeldBy.{heldBy, inDiscBits, heldIn, heldFrom}
-use Rattle.listing.proofs.HeldZones.{held-turn, held-end, ReadInTurn, zones-in-turn}
+use Rattle.walk.proofs.ZonesRead.{ReadInTurn, zones-in-turn}
+use Rattle.listing.proofs.HeldZones.{held-turn, held-end}
 use Rattle.listing.proofs.Filled.{Fills, fills-le, entries-fill}
 
 -- the places of pieces

@@ -1,31 +1,20 @@
 -- The fragments of one holder, by its number: an object's id, or 0 for free space, which no object has on an accepted map. As
--- pairs in disc bits, from a zone's lines, from a zone, and from several zones. Assumes nothing.
-use mathlib.Core.Path.{_≡_}
+-- pairs in disc bits: of lines, of a zone, and of several zones. Assumes nothing.
 use mathlib.Core.Bool.{cond}
 use mathlib.Core.List.{List, [], _∷_, _++_, map}
-use Prim.Native.Nat.{ℕ, zero, suc, _<_}
+use Prim.Native.Nat.{ℕ, zero, suc}
 use lib.Dec.{eqb}
-use lib.ListN.{length}
 use Rattle.geometry.specs.declared.Geometry.{Geometry}
-use Rattle.geometry.specs.Accepted.{AcceptedGeometry}
 use Rattle.model.specs.Chain.{Pair, Entry}
 use Rattle.model.specs.Rules.{zoneBlock}
 use Rattle.model.specs.Pieces.{toDisc}
-use Rattle.zone.specs.Lines.{entriesIn, IsRead, holderNumber}
+use Rattle.zone.specs.Lines.{entriesIn, holderNumber}
+use Rattle.walk.specs.declared.Line.{Line}
 
--- a zone's block that keeps the rules
-pub record SoundZone (g : Geometry) (z : ℕ) (block : List ℕ) : Type 0 where
-  pub numbers : AcceptedGeometry g
-  pub zone : z < g .zones
-  pub sized : length block ≡ g .sector
-  pub kept : IsRead g z block
-
--- of lines as `zone::list_zone` writes them: holder, disc bit, length
-abbrev pub pairsIn : ℕ → List ℕ → List Pair
-pairsIn h [] = []
-pairsIn h (a ∷ []) = []
-pairsIn h (a ∷ d ∷ []) = []
-pairsIn h (a ∷ d ∷ n ∷ l) = cond (eqb a h) (record { start = d; len = n } ∷ pairsIn h l) (pairsIn h l)
+-- of lines
+abbrev pub heldLines : ℕ → List Line → List Pair
+heldLines h [] = []
+heldLines h (l ∷ ls) = cond (eqb (l .holder) h) (record { start = l .start; len = l .len } ∷ heldLines h ls) (heldLines h ls)
 
 -- of entries in block bits
 abbrev pub heldBy : ℕ → List Entry → List Pair

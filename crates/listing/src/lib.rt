@@ -9,12 +9,11 @@ ghost use mathlib.Core.Bool.{cond};
 ghost use mathlib.Core.List.{[], _∷_};
 ghost use Prim.Native.Nat.{_+_, _-_, _*_, _<_, _≤_};
 ghost use lib.Dec.{eqb};
-ghost use lib.ListN.{length, take};
+ghost use lib.ListN.{length};
 ghost use lib.Seq.{sets};
 ghost use Rattle.model.specs.Chain.{numbersOf};
 ghost use Rattle.map.specs.Accepted.{AcceptedMap};
-ghost use Rattle.zone.specs.Lines.{entriesIn};
-ghost use Rattle.listing.specs.HeldBy.{SoundZone, pairsIn, heldBy, inDiscBits, heldFrom};
+ghost use Rattle.listing.specs.HeldBy.{heldFrom};
 ghost use Rattle.listing.specs.Listed.{objectFound, freeFound, Lists};
 ghost use Rattle.listing.specs.Laws.{ListingLaws};
 
@@ -91,14 +90,12 @@ pub fn count_zones(map: &[u8], g: Geometry, holder: u32) -> usize
     ensures { λ r. ⌜ r ≡ length (heldFrom g holder (now (map .entry)) 0 (g .zones)) ⌝ }
 {
     let zones = g.zones;
-    let size = g.sector;
     let mut n = 0;
-    let mut z = 0;
-    while z < zones {
-        let a = z * size;
-        let e = a + size;
-        n += count_zone(&map[a..e], z, g, holder);
-        z += 1;
+    let mut w = walk::from_zone(map, g, 0);
+    while w.zone < zones {
+        let s = walk::next(map, g, w);
+        n += same(s.line.holder, holder);
+        w = s.after;
     }
     n
 }
@@ -117,58 +114,15 @@ pub fn write_zones(
     ensures list { λ r. ⌜ now (pairs .exit) ≡ sets (now (pairs .entry)) at (numbersOf (heldFrom g holder (now (map .entry)) from (to - from))) ⌝ }
     ensures next { λ r. ⌜ r ≡ at + 2 * length (heldFrom g holder (now (map .entry)) from (to - from)) ⌝ }
 {
-    let size = g.sector;
     let mut i = at;
-    let mut z = from;
-    while z < to {
-        let a = z * size;
-        let e = a + size;
-        i = write_zone(&map[a..e], z, g, holder, pairs, i);
-        z += 1;
+    let mut w = walk::from_zone(map, g, from);
+    while w.zone < to {
+        let s = walk::next(map, g, w);
+        let line = s.line;
+        i = put_if(line.holder == holder, line.start, line.len, pairs, i);
+        w = s.after;
     }
     i
-}
-
-// How many fragments a holder has in zone z.
-fn count_zone(block: &[u8], z: usize, g: Geometry, holder: u32) -> usize
-    requires { ⌜ SoundZone g z (now block) ⌝ }
-    ensures { λ r. ⌜ (r ≡ length (heldBy holder (entriesIn g z (now (block .entry))))) × (r ≤ 683) ⌝ }
-{
-    let mut lines = [0u32; 2048];
-    let n = zone::list_zone(block, z, g, &mut lines);
-    count_lines(&lines, n, holder)
-}
-
-// Writes the pairs of a holder's fragments in zone z from entry `at` on; answers the entry after them.
-fn write_zone(
-    block: &[u8],
-    z: usize,
-    g: Geometry,
-    holder: u32,
-    pairs: &mut [u32],
-    at: usize,
-) -> usize
-    requires { ⌜ SoundZone g z (now block) × (at + 2 * length (heldBy holder (entriesIn g z (now block))) ≤ length (now pairs)) ⌝ }
-    ensures list { λ r. ⌜ now (pairs .exit) ≡ sets (now (pairs .entry)) at (numbersOf (inDiscBits g z (heldBy holder (entriesIn g z (now (block .entry)))))) ⌝ }
-    ensures next { λ r. ⌜ r ≡ at + 2 * length (heldBy holder (entriesIn g z (now (block .entry)))) ⌝ }
-{
-    let mut lines = [0u32; 2048];
-    let n = zone::list_zone(block, z, g, &mut lines);
-    write_lines(&lines, n, holder, pairs, at)
-}
-
-// How many of n lines are a holder's.
-fn count_lines(lines: &[u32], n: usize, holder: u32) -> usize
-    requires { ⌜ 3 * n ≤ length (now lines) ⌝ }
-    ensures { λ r. ⌜ (r ≡ length (pairsIn holder (take (3 * n) (now (lines .entry))))) × (r ≤ n) ⌝ }
-{
-    let mut count = 0;
-    let mut i = 0;
-    while i < n {
-        count += same(lines[3 * i], holder);
-        i += 1;
-    }
-    count
 }
 
 // 1 where the two numbers are the same.
@@ -176,27 +130,6 @@ fn same(a: u32, b: u32) -> usize
     ensures { λ r. ⌜ (r ≡ cond (eqb a b) 1 0) × (r ≤ 1) ⌝ }
 {
     if a == b { 1 } else { 0 }
-}
-
-// Writes the pairs of a holder's lines from entry `at` on; answers the entry after them.
-fn write_lines(lines: &[u32], n: usize, holder: u32, pairs: &mut [u32], at: usize) -> usize
-    requires { ⌜ (3 * n ≤ length (now lines)) × (at + 2 * length (pairsIn holder (take (3 * n) (now lines))) ≤ length (now pairs)) ⌝ }
-    ensures list { λ r. ⌜ now (pairs .exit) ≡ sets (now (pairs .entry)) at (numbersOf (pairsIn holder (take (3 * n) (now (lines .entry))))) ⌝ }
-    ensures next { λ r. ⌜ r ≡ at + 2 * length (pairsIn holder (take (3 * n) (now (lines .entry)))) ⌝ }
-{
-    let mut j = at;
-    let mut i = 0;
-    while i < n {
-        j = put_if(
-            lines[3 * i] == holder,
-            lines[3 * i + 1],
-            lines[3 * i + 2],
-            pairs,
-            j,
-        );
-        i += 1;
-    }
-    j
 }
 
 // Stores a pair at entry `at` if it is wanted; answers the entry after it.

@@ -2,4 +2,3 @@ pub mod ChecksByZone
 pub mod ZonesJudged
 pub mod Answers
 pub mod Accepts
-pub mod ZonesKept

@@ -1,12 +1,10 @@
 // Reads a map from standard input and prints one line for each fragment, ascending: owner or `free`, disc bit, length. A refusal
 // prints `refused`, number, zone. A map of over 65,536 bytes is treated as refusal 1 (document 01, "What the station handles").
-// Which line stands for which fragment is `zone::list_zone`'s contract; this program only prints them.
+// Which line stands for which fragment is `walk::next`'s contract; this program only prints them.
 use geometry::Geometry;
 use geometry::Refusal;
 use libc::STDOUT_FILENO;
 use map::Checked;
-ghost use Prim.Native.Nat.{_*_, _≤_};
-ghost use lib.ListN.{length};
 ghost use Rattle.map.specs.Accepted.{AcceptedMap};
 
 fn main() {
@@ -31,26 +29,12 @@ fn print_map(map: &[u8], g: Geometry)
     requires { ⌜ AcceptedMap (now map) g ⌝ }
 {
     let zones = g.zones;
-    let size = g.sector;
-    let mut lines = [0u32; 2048];
-    let mut z = 0;
-    while z < zones {
-        let a = z * size;
-        let e = a + size;
-        let n = zone::list_zone(&map[a..e], z, g, &mut lines);
-        print_lines(&lines, n);
-        z += 1;
-    }
-}
-
-// The first n lines of a zone.
-fn print_lines(lines: &[u32], n: usize)
-    requires { ⌜ 3 * n ≤ length (now lines) ⌝ }
-{
-    let mut i = 0;
-    while i < n {
-        print_line(lines[3 * i], lines[3 * i + 1], lines[3 * i + 2]);
-        i += 1;
+    let mut w = walk::from_zone(map, g, 0);
+    while w.zone < zones {
+        let s = walk::next(map, g, w);
+        let line = s.line;
+        print_line(line.holder, line.start, line.len);
+        w = s.after;
     }
 }
 

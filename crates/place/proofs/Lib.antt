@@ -6,6 +6,7 @@ pub mod ListCut
 pub mod WalkZones
 pub mod LinesLeft
 pub mod MergeTurns
+pub mod Turning
 pub mod ZoneJudged
 pub mod ApartZones
 pub mod ZonesJudged

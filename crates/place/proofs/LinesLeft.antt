@@ -1,11 +1,10 @@
 -- What is left of a zone's lines and of the listed pairs, one line or pair at a time, and the order in which they are merged:
 -- what starts first comes first.
-use mathlib.Core.Path.{_≡_, refl, ap, _∙_}
-use mathlib.Core.Bool.{true, false}
+use mathlib.Core.Path.{_≡_, ap}
 use mathlib.Core.List.{List, [], _∷_, map}
-use Prim.Native.Nat.{ℕ, suc, _+_, _*_, _<_, _≤_}
+use Prim.Native.Nat.{ℕ, suc, _+_, _≤_}
 use native.Mathlib.Omega.{arith}
-use lib.Dec.{eqb}
+use borrow.Author.Tests.{eq-eqb, ne-eqb}
 use lib.ListN.{length, getD}
 use Rattle.model.specs.Pieces.{Piece}
 use Rattle.calls.specs.Order.{Ascending}
@@ -13,22 +12,16 @@ use Rattle.calls.specs.Edits.{put, own}
 use Rattle.calls.proofs.ByPlace.{asc-weak, insert-before}
 use Rattle.writer.proofs.Starts.{weak-put}
 use Rattle.writer.proofs.ListedPairs.{no-pairs, next-pairs}
-use Rattle.place.specs.Merged.{ownedLines, linesLeft, listLeft}
+use Rattle.walk.specs.declared.Line.{Line}
+use Rattle.place.specs.Merged.{ownedLines, listLeft}
 use Rattle.model.specs.Chain.{pair}
-use Rattle.zone.proofs.LineThrees.{next-line, no-line}
 
--- the lines
-module _ (lines : List ℕ) (n : ℕ) (sized : 3 * n ≤ length lines) (i : ℕ) where
-  pub no-lines : n ≤ i → linesLeft lines n i ≡ []
-  no-lines h = ap ownedLines (no-line n lines sized i h)
+-- the first line
+pub free-line : (l : Line) (ls : List Line) → l .holder ≡ 0 → ownedLines (l ∷ ls) ≡ ownedLines ls
+free-line l ls e = rw (eq-eqb (l .holder) 0 e)
 
-  module _ (h : i < n) where
-    pub free-line : eqb (getD lines (3 * i) 0) 0 ≡ true → linesLeft lines n i ≡ linesLeft lines n (i + 1)
-    free-line t = ap ownedLines (next-line n lines sized i h) ∙ rw t refl
-
-    pub owned-line : eqb (getD lines (3 * i) 0) 0 ≡ false
-        → linesLeft lines n i ≡ own (getD lines (3 * i) 0) (pair (getD lines (3 * i + 1) 0) (getD lines (3 * i + 2) 0)) ∷ linesLeft lines n (i + 1)
-    owned-line t = ap ownedLines (next-line n lines sized i h) ∙ rw t refl
+pub owned-line : (l : Line) (ls : List Line) → (l .holder ≡ 0 → ⊥) → ownedLines (l ∷ ls) ≡ own (l .holder) (pair (l .start) (l .len)) ∷ ownedLines ls
+owned-line l ls n = rw (ne-eqb (l .holder) 0 n)
 
 -- the list
 pub no-entries : (id : ℕ) (list : List ℕ) (j : ℕ) → length list ≤ j → listLeft id list j ≡ []

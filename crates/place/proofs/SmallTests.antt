@@ -1,7 +1,7 @@
 -- The answers of the small tests, each by what the code has found: a gap, a number past the end, a zone's ends, a place in
 -- object order.
 use mathlib.Core.Path.{_≡_}
-use mathlib.Core.Bool.{Bool, true, false, cond, _&&_}
+use mathlib.Core.Bool.{Bool, true, false, cond, _&&_, _||_}
 use Prim.Native.Nat.{ℕ, suc, _+_, _<_, _≤_}
 use native.Mathlib.Nat.{suc-mul, div-lt-iff-lt-mul}
 use native.Mathlib.Numerals.{add-one}
@@ -23,12 +23,12 @@ no-gap m at next e = rw (eq-eqb at next e)
 pub some-gap : (m at next : ℕ) → (at ≡ next → ⊥) → leb (at + m) next ≡ gapFits m at next
 some-gap m at next n = rw (ne-eqb at next n)
 
--- a line that is free
-pub no-line : (n i : ℕ) (b : Bool) → n ≤ i → false ≡ ltb i n && b
-no-line n i b h = rw (le-ltb i n h)
+-- something left
+pub line-left : (zone z : ℕ) (b : Bool) → zone ≤ z → true ≡ leb zone z || b
+line-left zone z b h = rw (le-leb zone z h)
 
-pub some-line : (n i : ℕ) (b : Bool) → i < n → b ≡ ltb i n && b
-some-line n i b h = rw (lt-ltb i n h)
+pub no-line-left : (zone z : ℕ) (b : Bool) → z < zone → leb zone z || b ≡ b
+no-line-left zone z b h = rw (lt-leb zone z h)
 
 -- a number of a list, or one above all
 pub past-end : (k end x : ℕ) → end ≤ k → 4294967296 ≡ cond (ltb k end) x 4294967296

@@ -21,8 +21,8 @@ use Rattle.model.specs.Pieces.{Piece}
 use Rattle.model.specs.Drawing.{Drawable}
 use Rattle.model.proofs.ByPlace.{zone-end}
 use Rattle.zone.specs.Lines.{entriesIn}
-use Rattle.listing.specs.HeldBy.{SoundZone}
-use Rattle.listing.proofs.HeldZones.{zone-reads}
+use Rattle.walk.specs.SoundZone.{SoundZone}
+use Rattle.walk.proofs.ZonesRead.{zone-reads}
 use Rattle.listing.proofs.FreeHeld.{ids-fit}
 use Rattle.calls.specs.Order.{Ascending}
 use Rattle.calls.specs.Edits.{put, own, touches, touchedFrom}

@@ -23,7 +23,7 @@ use Rattle.calls.specs.Holes.{apart, allApart}
 use Rattle.calls.specs.Judge.{pairsFrom}
 use Rattle.calls.proofs.Returned.{pairs-numbers}
 use Rattle.runs.proofs.ZonesTouched.{zone-give, count-next}
-use Rattle.listing.proofs.HeldZones.{zone-reads}
+use Rattle.walk.proofs.ZonesRead.{zone-reads}
 use Rattle.holes.specs.EditableMap.{EditableMap}
 use Rattle.holes.proofs.EditableMap.{map-pieces, zone-pieces}
 use Rattle.place.specs.Parts.{Rising, zonePairs, IsPart}

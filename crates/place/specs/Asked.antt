@@ -14,7 +14,7 @@ use Rattle.calls.specs.Order.{Ascending}
 use Rattle.calls.specs.Edits.{gives, touchedZones}
 use Rattle.calls.specs.Judge.{place, accepted, isEmpty, listFits, judge, pairsFrom}
 use Rattle.runs.specs.Written.{written}
-use Rattle.listing.specs.HeldBy.{SoundZone}
+use Rattle.walk.specs.SoundZone.{SoundZone}
 use Rattle.runs.specs.Editable.{piecesOn}
 use Rattle.writer.specs.ZoneEdit.{editedPieces}
 use Rattle.holes.specs.EditableMap.{EditableMap}

@@ -2,54 +2,65 @@
 use mathlib.Core.Path.{_≡_}
 use mathlib.Core.Bool.{Bool, true, cond, _&&_}
 use mathlib.Core.List.{List, [], _∷_, map}
-use Prim.Native.Nat.{ℕ, _+_, _*_, _%_, _<_, _≤_}
+use Prim.Native.Nat.{ℕ, _+_, _-_, _%_, _<_, _≤_}
 use lib.Dec.{eqb, ltb}
-use lib.ListN.{length, take, drop}
+use lib.ListN.{length, getD, drop}
 use Rattle.geometry.specs.declared.Geometry.{Geometry}
 use Rattle.geometry.specs.Places.{zoneFrom, zoneEnd}
 use Rattle.model.specs.Pieces.{Piece, ownedOf, pieceToDisc}
 use Rattle.calls.specs.Order.{Ascending}
 use Rattle.calls.specs.Edits.{put, own}
-use Rattle.calls.specs.Holes.{apart}
+use Rattle.calls.specs.Holes.{gapFits, apart}
 use Rattle.calls.specs.Judge.{pairsFrom}
 use Rattle.zone.specs.Lines.{entriesIn}
+use Rattle.map.specs.Accepted.{AcceptedMap}
+use Rattle.walk.specs.declared.Walk.{Walk}
+use Rattle.walk.specs.declared.Line.{Line}
+use Rattle.walk.specs.Remaining.{remaining, Stands}
 use Rattle.place.specs.declared.Turn.{Turn}
 use Rattle.model.specs.Chain.{pair}
 
--- the owned ones of lines as `zone::list_zone` writes them: holder, disc bit, length
-abbrev pub ownedLines : List ℕ → List Piece
+-- the owned ones of lines
+abbrev pub ownedLines : List Line → List Piece
 ownedLines [] = []
-ownedLines (a ∷ []) = []
-ownedLines (a ∷ d ∷ []) = []
-ownedLines (a ∷ d ∷ n ∷ l) = cond (eqb a 0) (ownedLines l) (own a (pair d n) ∷ ownedLines l)
+ownedLines (l ∷ ls) = cond (eqb (l .holder) 0) (ownedLines ls) (own (l .holder) (pair (l .start) (l .len)) ∷ ownedLines ls)
 
--- of n lines those from line i on, and the pairs of a list from entry j on as pieces of `id`
-abbrev pub linesLeft : List ℕ → ℕ → ℕ → List Piece
-linesLeft lines n i = ownedLines (drop (3 * i) (take (3 * n) lines))
-
+-- the pairs of a list from entry j on as pieces of `id`
 abbrev pub listLeft : ℕ → List ℕ → ℕ → List Piece
 listLeft id list j = map (own id) (pairsFrom (drop j list))
 
 -- they lie apart from disc bit `at` to `end`, with no gap of 1 to m - 1 bits
-abbrev pub piecesApart : ℕ → ℕ → ℕ → List ℕ → ℕ → List ℕ → ℕ → ℕ → ℕ → Bool
-piecesApart id m end lines n list i j at = apart m at end (put (listLeft id list j) (linesLeft lines n i))
+abbrev pub piecesApart : ℕ → ℕ → ℕ → List Line → List ℕ → ℕ → ℕ → Bool
+piecesApart id m end ls list j at = apart m at end (put (listLeft id list j) (ownedLines ls))
 
--- the merge stands at line i and entry j, and the piece before ended at disc bit `at`
-pub record Merging (lines : List ℕ) (n : ℕ) (list : List ℕ) (i j at : ℕ) : Type 0 where
-  pub sized : 3 * n ≤ length lines
-  pub line-in : i ≤ n
+-- the merge stands at the first of some lines and at entry j, and the piece before ended at disc bit `at`
+pub record Merging (ls : List Line) (list : List ℕ) (j at : ℕ) : Type 0 where
   pub entry-in : j ≤ length list
   pub even : length list % 2 ≡ 0
   pub pair-at : j % 2 ≡ 0
-  pub lines-ascend : Ascending 0 (linesLeft lines n i)
+  pub lines-ascend : Ascending 0 (ownedLines ls)
   pub pairs-ascend : (id : ℕ) → Ascending 0 (listLeft id list j)
   pub at-high : at < 8589934592
 
+-- the lines are those that remain of zone z
+pub record MergeAsks (m : List ℕ) (g : Geometry) (z : ℕ) (w : Walk) (list : List ℕ) (j at : ℕ) : Type 0 where
+  pub accepted : AcceptedMap m g
+  pub zone : z < g .zones
+  pub stands : Stands m g w
+  pub merging : Merging (remaining m g (z + 1) w) list j at
+
+-- how much is left of lines and list
+abbrev pub toMerge : List ℕ → Geometry → ℕ → Walk → List ℕ → ℕ → ℕ
+toMerge m g z w list j = length (remaining m g (z + 1) w) + (length list - j)
+
 -- one line or pair further
-pub record Turned (lines : List ℕ) (n : ℕ) (list : List ℕ) (i j at m : ℕ) (r : Turn) : Type 0 where
-  pub next : Merging lines n list (r .line) (r .entry) (r .at)
-  pub on : i + j < r .line + r .entry
-  pub same : (id end : ℕ) → piecesApart id m end lines n list i j at ≡ (r .fits && piecesApart id m end lines n list (r .line) (r .entry) (r .at))
+pub record Turned (m : List ℕ) (g : Geometry) (z : ℕ) (w : Walk) (list : List ℕ) (j at : ℕ) (r : Turn) : Type 0 where
+  pub fewer : toMerge m g z (r .walk) list (r .entry) < toMerge m g z w list j
+  pub same : (id end : ℕ) → piecesApart id (g .shortest) end (remaining m g (z + 1) w) list j at
+      ≡ (r .fits && piecesApart id (g .shortest) end (remaining m g (z + 1) (r .walk)) list (r .entry) (r .at))
+
+abbrev pub pairPassed : List ℕ → ℕ → ℕ → ℕ → Walk → Turn
+pairPassed list j at m w = record { fits = gapFits m at (getD list j 0); at = getD list j 0 + getD list (j + 1) 0; entry = j + 2; walk = w }
 
 -- the owned pieces of zone z in disc bits
 abbrev pub ownedInZone : Geometry → ℕ → List ℕ → List Piece

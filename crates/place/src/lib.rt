@@ -10,8 +10,9 @@ use geometry::Refusal;
 use geometry::Start;
 use holes::Touching;
 use map::Checked;
+use walk::Walk;
 ghost use mathlib.Core.Path.{_≡_};
-ghost use mathlib.Core.Bool.{cond, _&&_};
+ghost use mathlib.Core.Bool.{true, cond, _&&_, _||_};
 ghost use Prim.Native.Nat.{ℕ, _+_, _*_, _%_, _<_, _≤_};
 ghost use lib.Dec.{eqb, ltb, leb};
 ghost use lib.ListN.{length, getD, drop};
@@ -28,9 +29,10 @@ ghost use Rattle.writer.specs.ZoneEdit.{ZoneEdit};
 ghost use Rattle.holes.specs.EditableMap.{EditableMap};
 ghost use Rattle.place.specs.Placed.{Places};
 ghost use Rattle.place.specs.Parts.{orderPlace, fitsFrom, leading, IsPart, Walking};
-ghost use Rattle.place.specs.Merged.{Merging, Turned, piecesApart, zoneFits};
+ghost use Rattle.place.specs.Merged.{MergeAsks, Turned, pairPassed, zoneFits};
 ghost use Rattle.place.specs.Asked.{PlaceAsks, WriteAsks, ZoneAsks, zoneAfter};
 ghost use Rattle.runs.specs.Editable.{piecesOn};
+ghost use Rattle.model.specs.Rules.{zoneBlock};
 ghost use Rattle.model.specs.Chain.{pair};
 
 // The pieces are placed, or a refusal.
@@ -217,18 +219,15 @@ fn judge_zones(map: &[u8], g: Geometry, start: usize, late: usize, list: &[u32])
     ensures touched { λ r. ⌜ r .touched ≡ touchedCount (touchedZones g (pairsFrom (now (list .entry)))) ⌝ }
 {
     let zones = g.zones;
-    let size = g.sector;
     let mut fits = true;
     let mut touched = 0;
     let mut i = late;
     let mut z = 0;
     while z < zones {
-        let a = z * size;
-        let e = a + size;
         let part = next_part(g, list, start, z, i);
         let from = part.from;
         i = part.to;
-        fits = bits::both(fits, zone_fits(&map[a..e], z, g, &list[from..i]));
+        fits = bits::both(fits, zone_fits(map, g, z, &list[from..i]));
         touched += touches(from, i);
         z += 1;
     }
@@ -243,93 +242,93 @@ fn touches(from: usize, to: usize) -> usize
 }
 
 // Whether the pieces of zone z lie apart with the listed pairs put in. Without such pairs they do.
-fn zone_fits(block: &[u8], z: usize, g: Geometry, list: &[u32]) -> bool
-    requires { ⌜ ZoneAsks g z (now block) (now list) ⌝ }
-    ensures { λ r. ⌜ ((id : ℕ) → r ≡ zoneFits g z id (now (block .entry)) (now (list .entry))) ⌝ }
+fn zone_fits(map: &[u8], g: Geometry, z: usize, list: &[u32]) -> bool
+    requires { ⌜ AcceptedMap (now map) g × ZoneAsks g z (zoneBlock g (now map) z) (now list) ⌝ }
+    ensures { λ r. ⌜ ((id : ℕ) → r ≡ zoneFits g z id (zoneBlock g (now (map .entry)) z) (now (list .entry))) ⌝ }
 {
     if list.len() == 0 {
         return true;
     }
-    let mut lines = [0u32; 2048];
-    let n = zone::list_zone(block, z, g, &mut lines);
-    let low = g.first_disc_bit(z).0;
     let high = g.first_disc_bit(z + 1).0;
-    lines_fit(&lines, n, list, g.shortest, low, high)
-}
-
-// Whether the owned ones of n lines and the pairs of the list lie apart from disc bit `low` to `high`, with no gap of 1 to
-// m - 1 bits. Both ascend, and are merged.
-fn lines_fit(lines: &[u32], n: usize, list: &[u32], m: usize, low: usize, high: usize) -> bool
-    requires { ⌜ Merging (now lines) n (now list) 0 0 low × (m < 4294967296) ⌝ }
-    ensures { λ r. ⌜ ((id : ℕ) → r ≡ piecesApart id m high (now (lines .entry)) n (now (list .entry)) 0 0 low) ⌝ }
-{
-    let mut at = low;
-    let mut i = 0;
+    let mut at = g.first_disc_bit(z).0;
     let mut j = 0;
-    while i + j < n + list.len() {
-        let turn = pass_one(lines, n, list, i, j, at, m);
+    let mut w = walk::from_zone(map, g, z);
+    while is_left(w.zone, z, j, list.len()) {
+        let turn = pass_one(map, g, z, w, list, j, at);
         if !turn.fits {
             return false;
         }
         at = turn.at;
-        i = turn.line;
         j = turn.entry;
+        w = turn.walk;
     }
-    gap_fits(m, at, high)
+    gap_fits(g.shortest, at, high)
+}
+
+// Whether lines of zone z are left, or entries of a list of n.
+fn is_left(zone: usize, z: usize, j: usize, n: usize) -> bool
+    ensures { λ r. ⌜ r ≡ (leb zone z || ltb j n) ⌝ }
+{
+    if zone <= z {
+        return true;
+    }
+    j < n
 }
 
 // One line or one pair passed: whether the gap before it fits, where it ends, and what comes next.
 struct Turn {
     fits: bool,
     at: usize,
-    line: usize,
     entry: usize,
+    walk: Walk,
 }
 
-// Passes line i or the pair at entry j, whichever comes first; a free line is no piece.
-fn pass_one(lines: &[u32], n: usize, list: &[u32], i: usize, j: usize, at: usize, m: usize) -> Turn
-    requires { ⌜ Merging (now lines) n (now list) i j at × (i + j < n + length (now list)) × (m < 4294967296) ⌝ }
-    ensures { λ r. ⌜ Turned (now (lines .entry)) n (now (list .entry)) i j at m r ⌝ }
+// Passes the line at which the walk stands or the pair at entry j, whichever comes first; a free line is no piece.
+fn pass_one(map: &[u8], g: Geometry, z: usize, w: Walk, list: &[u32], j: usize, at: usize) -> Turn
+    requires { ⌜ MergeAsks (now map) g z w (now list) j at × (leb (w .zone) z || ltb j (length (now list)) ≡ true) ⌝ }
+    ensures { λ r. ⌜ MergeAsks (now (map .entry)) g z (r .walk) (now (list .entry)) (r .entry) (r .at) × Turned (now (map .entry)) g z w (now (list .entry)) j at r ⌝ }
 {
-    if is_free(lines, n, i) {
+    if z < w.zone {
+        return pass_pair(list, j, at, g.shortest, w);
+    }
+    let s = walk::next(map, g, w);
+    let line = s.line;
+    let after = s.after;
+    if line.holder == 0 {
         return Turn {
             fits: true,
             at,
-            line: i + 1,
             entry: j,
+            walk: after,
         };
     }
-    let start = number_at(lines, 3 * i + 1, 3 * n);
-    let listed = number_at(list, j, list.len());
-    if listed < start {
-        let fits = gap_fits(m, at, listed);
-        let len = list[j + 1] as usize;
-        return Turn {
-            fits,
-            at: listed + len,
-            line: i,
-            entry: j + 2,
-        };
+    let start = line.start as usize;
+    if number_at(list, j, list.len()) < start {
+        return pass_pair(list, j, at, g.shortest, w);
     }
-    let fits = gap_fits(m, at, start);
-    let len = lines[3 * i + 2] as usize;
+    let fits = gap_fits(g.shortest, at, start);
     Turn {
         fits,
-        at: start + len,
-        line: i + 1,
+        at: start + line.len as usize,
         entry: j,
+        walk: after,
     }
 }
 
-// Whether there is a line i and it is free.
-fn is_free(lines: &[u32], n: usize, i: usize) -> bool
-    requires { ⌜ 3 * n ≤ length (now lines) ⌝ }
-    ensures { λ r. ⌜ r ≡ (ltb i n && eqb (getD (now (lines .entry)) (3 * i) 0) 0) ⌝ }
+// Passes the pair at entry j.
+fn pass_pair(list: &[u32], j: usize, at: usize, m: usize, w: Walk) -> Turn
+    requires { ⌜ (j + 2 ≤ length (now list)) × (m < 4294967296) × (at < 8589934592) ⌝ }
+    ensures { λ r. ⌜ (r ≡ pairPassed (now (list .entry)) j at m w) × (r .at < 8589934592) ⌝ }
 {
-    if n <= i {
-        return false;
+    let start = list[j] as usize;
+    let len = list[j + 1] as usize;
+    let fits = gap_fits(m, at, start);
+    Turn {
+        fits,
+        at: start + len,
+        entry: j + 2,
+        walk: w,
     }
-    lines[3 * i] == 0
 }
 
 // The number at entry k, or one above all where `end` is reached.

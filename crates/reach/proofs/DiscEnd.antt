@@ -19,7 +19,7 @@ use Rattle.model.specs.Check.{sound, zoneRead, every, isOwned, idFits, endFits,
 use Rattle.model.specs.Pieces.{Piece, keep, ownedIf, ownedOf, pieceToDisc, piecesOfZones, piecesOf, late, objectPairs}
 use Rattle.model.proofs.ZoneTests.{zone-tests}
 use Rattle.map.specs.Accepted.{AcceptedMap}
-use Rattle.listing.proofs.HeldZones.{ReadInTurn, zones-in-turn}
+use Rattle.walk.proofs.ZonesRead.{ReadInTurn, zones-in-turn}
 use Rattle.listing.proofs.Filled.{Fills, entries-fill}
 use Rattle.listing.proofs.ObjectOrder.{places}
 use Rattle.reach.specs.Address.{at, seek}

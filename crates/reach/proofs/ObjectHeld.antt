@@ -16,7 +16,8 @@ use Rattle.zone.specs.Lines.{entriesIn}
 use Rattle.zone.proofs.EntriesRead.{is-read}
 use Rattle.map.specs.Accepted.{AcceptedMap}
 use Rattle.listing.specs.HeldBy.{heldBy, inDiscBits, heldFrom}
-use Rattle.listing.proofs.HeldZones.{held-turn, held-end, ReadInTurn, zones-in-turn}
+use Rattle.walk.proofs.ZonesRead.{ReadInTurn, zones-in-turn}
+use Rattle.listing.proofs.HeldZones.{held-turn, held-end}
 use Rattle.listing.proofs.ObjectOrder.{places, places-append}
 
 module _ (g : Geometry) (z id : ℕ) (some : 1 ≤ id) where

@@ -10,8 +10,7 @@ ghost use lib.Dec.{ltb};
 ghost use lib.ListN.{length, take, drop, replicate};
 ghost use Rattle.geometry.specs.Accepted.{AcceptedGeometry};
 ghost use Rattle.map.specs.Accepted.{AcceptedMap};
-ghost use Rattle.zone.specs.Lines.{entriesIn};
-ghost use Rattle.listing.specs.HeldBy.{SoundZone, pairsIn, heldBy, inDiscBits, heldFrom};
+ghost use Rattle.listing.specs.HeldBy.{heldFrom};
 ghost use Rattle.reach.specs.Address.{startOffset, seek, within, addressFound, addressAnswer};
 ghost use Rattle.reach.specs.Sweep.{sweptBytes, objectSweep, freeSweep, Sweeps};
 ghost use Rattle.reach.specs.Parts.{seekOf, wantedPair, pairCounts};
@@ -147,13 +146,13 @@ fn seek_zones(map: &[u8], g: Geometry, holder: u32, from: usize, to: usize, i: u
     requires { ⌜ AcceptedMap (now map) g × (from ≤ to) × (to ≤ g .zones) ⌝ }
     ensures { λ r. ⌜ r ≡ seekOf (seek (g .unit) (heldFrom g holder (now (map .entry)) from (to - from)) i) ⌝ }
 {
-    let size = g.sector;
+    let unit = g.unit;
     let mut left = i;
-    let mut z = from;
-    while z < to {
-        let a = z * size;
-        let e = a + size;
-        match seek_zone(&map[a..e], z, g, holder, left) {
+    let mut w = walk::from_zone(map, g, from);
+    while w.zone < to {
+        let s = walk::next(map, g, w);
+        let line = s.line;
+        match seek_line(line.holder == holder, line.start, line.len, unit, left) {
             Seek::At(x) => {
                 return Seek::At(x);
             }
@@ -161,44 +160,7 @@ fn seek_zones(map: &[u8], g: Geometry, holder: u32, from: usize, to: usize, i: u
                 left = j;
             }
         }
-        z += 1;
-    }
-    Seek::Past(left)
-}
-
-// Byte i of a holder's fragments in zone z, joined.
-fn seek_zone(block: &[u8], z: usize, g: Geometry, holder: u32, i: usize) -> Seek
-    requires { ⌜ SoundZone g z (now block) ⌝ }
-    ensures { λ r. ⌜ r ≡ seekOf (seek (g .unit) (inDiscBits g z (heldBy holder (entriesIn g z (now (block .entry))))) i) ⌝ }
-{
-    let mut lines = [0u32; 2048];
-    let n = zone::list_zone(block, z, g, &mut lines);
-    seek_lines(&lines, n, holder, g.unit, i)
-}
-
-// Byte i of a holder's lines, joined.
-fn seek_lines(lines: &[u32], n: usize, holder: u32, unit: usize, i: usize) -> Seek
-    requires { ⌜ (3 * n ≤ length (now lines)) × (unit ≤ 4096) ⌝ }
-    ensures { λ r. ⌜ r ≡ seekOf (seek unit (pairsIn holder (take (3 * n) (now (lines .entry)))) i) ⌝ }
-{
-    let mut left = i;
-    let mut k = 0;
-    while k < n {
-        match seek_line(
-            lines[3 * k] == holder,
-            lines[3 * k + 1],
-            lines[3 * k + 2],
-            unit,
-            left,
-        ) {
-            Seek::At(x) => {
-                return Seek::At(x);
-            }
-            Seek::Past(j) => {
-                left = j;
-            }
-        }
-        k += 1;
+        w = s.after;
     }
     Seek::Past(left)
 }
@@ -265,64 +227,22 @@ fn sweep_zones(
     ensures count { λ r. ⌜ r ≡ pairCounts (g .unit) (heldFrom g holder (now (map .entry)) 0 (g .zones)) first (length (now (image .entry))) ⌝ }
 {
     let zones = g.zones;
-    let size = g.sector;
+    let unit = g.unit;
     let mut count = 0;
-    let mut z = 0;
-    while z < zones {
-        let a = z * size;
-        let e = a + size;
-        count += sweep_zone(&map[a..e], z, g, holder, image, first, fill);
-        z += 1;
-    }
-    count
-}
-
-// Sweeps a holder's fragments of zone z; answers how many bytes were written.
-fn sweep_zone(
-    block: &[u8],
-    z: usize,
-    g: Geometry,
-    holder: u32,
-    image: &mut [u8],
-    first: usize,
-    fill: u8,
-) -> usize
-    requires { ⌜ SoundZone g z (now block) ⌝ }
-    ensures bytes { λ r. ⌜ now (image .exit) ≡ sweptBytes (g .unit) (inDiscBits g z (heldBy holder (entriesIn g z (now (block .entry))))) fill first (now (image .entry)) ⌝ }
-    ensures count { λ r. ⌜ r ≡ pairCounts (g .unit) (inDiscBits g z (heldBy holder (entriesIn g z (now (block .entry))))) first (length (now (image .entry))) ⌝ }
-{
-    let mut lines = [0u32; 2048];
-    let n = zone::list_zone(block, z, g, &mut lines);
-    sweep_lines(&lines, n, holder, g.unit, image, first, fill)
-}
-
-// Sweeps a holder's lines; answers how many bytes were written.
-fn sweep_lines(
-    lines: &[u32],
-    n: usize,
-    holder: u32,
-    unit: usize,
-    image: &mut [u8],
-    first: usize,
-    fill: u8,
-) -> usize
-    requires { ⌜ (3 * n ≤ length (now lines)) × (unit ≤ 4096) × (n ≤ 1024) ⌝ }
-    ensures bytes { λ r. ⌜ now (image .exit) ≡ sweptBytes unit (pairsIn holder (take (3 * n) (now (lines .entry)))) fill first (now (image .entry)) ⌝ }
-    ensures count { λ r. ⌜ r ≡ pairCounts unit (pairsIn holder (take (3 * n) (now (lines .entry)))) first (length (now (image .entry))) ⌝ }
-{
-    let mut count = 0;
-    let mut i = 0;
-    while i < n {
+    let mut w = walk::from_zone(map, g, 0);
+    while w.zone < zones {
+        let s = walk::next(map, g, w);
+        let line = s.line;
         count += sweep_line(
-            lines[3 * i] == holder,
-            lines[3 * i + 1],
-            lines[3 * i + 2],
+            line.holder == holder,
+            line.start,
+            line.len,
             unit,
             image,
             first,
             fill,
         );
-        i += 1;
+        w = s.after;
     }
     count
 }

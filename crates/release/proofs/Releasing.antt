@@ -19,7 +19,7 @@ use Rattle.model.specs.Pieces.{ownedOf}
 use Rattle.model.specs.Drawing.{Drawable}
 use Rattle.model.proofs.ByPlace.{zone-end}
 use Rattle.zone.specs.Lines.{entriesIn}
-use Rattle.listing.proofs.HeldZones.{zone-reads}
+use Rattle.walk.proofs.ZonesRead.{zone-reads}
 use Rattle.calls.specs.Edits.{without, touches, touchedFrom, touchedZones}
 use Rattle.runs.specs.Editable.{zonesOf}
 use Rattle.runs.specs.Written.{written}

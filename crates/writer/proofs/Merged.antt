@@ -22,7 +22,8 @@ use Rattle.writer.specs.declared.Plan.{Plan}
 use Rattle.writer.specs.declared.Stretch.{Stretch}
 use Rattle.writer.specs.Redraw.{piecesFrom, GapAsks}
 use Rattle.writer.specs.Merge.{inBlock, listedFrom, firstStretch, PassedOver, mergedFrom, RedrawAsks}
-use Rattle.writer.proofs.Opened.{piece, Opened, was-owned, none-left}
+use Rattle.fragment.proofs.Opened.{Opened}
+use Rattle.writer.proofs.Opened.{piece, was-owned, none-left}
 use Rattle.writer.proofs.Starts.{weak-put, put-behind, read-from}
 use Rattle.writer.proofs.ListedPairs.{no-pairs, next-pairs}
 use Rattle.writer.proofs.Passing.{without-other}

@@ -16,9 +16,11 @@ use Rattle.model.specs.Chain.{onward}
 use Rattle.model.specs.Pieces.{Piece}
 use Rattle.calls.specs.Edits.{without}
 use Rattle.writer.specs.declared.Plan.{Plan}
-use Rattle.writer.specs.Redraw.{idAt, lengthAt, readFrom, CanRead, piecesFrom}
+use Rattle.fragment.specs.Reading.{idAt, lengthAt, readFrom, CanRead}
+use Rattle.writer.specs.Redraw.{piecesFrom}
 use Rattle.writer.specs.Merge.{stayingFrom, ReadableFrom, PassedOver, Stays}
-use Rattle.writer.proofs.Opened.{piece, Opened, closes, opened, was-free, was-owned}
+use Rattle.fragment.proofs.Opened.{Opened, closes, opened}
+use Rattle.writer.proofs.Opened.{piece, was-free, was-owned}
 
 -- a piece of the object that goes, and of another
 pub without-own : (gone at len id : ℕ) (l : List Piece) → id ≡ gone → without gone (piece at len id ∷ l) ≡ without gone l

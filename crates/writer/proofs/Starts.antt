@@ -15,7 +15,8 @@ use Rattle.model.specs.Chain.{free, owned, Entry, entry, onward, before, follow
 use Rattle.model.specs.Pieces.{Piece}
 use Rattle.calls.specs.Edits.{insert, put}
 use Rattle.calls.proofs.ByPlace.{Weak, weak-weaken, weak-insert}
-use Rattle.writer.specs.Redraw.{followFrom, ownedIn, piecesFrom}
+use Rattle.fragment.specs.Reading.{followFrom}
+use Rattle.writer.specs.Redraw.{ownedIn, piecesFrom}
 
 -- pieces put in
 pub weak-put : (f : ℕ) (qs l : List Piece) → Weak f qs → Weak f l → Weak f (put qs l)

@@ -14,7 +14,8 @@ use Rattle.model.specs.Fragments.{Fragment, fragmentBits}
 use Rattle.model.specs.Pieces.{Piece}
 use Rattle.model.specs.Drawing.{gap, drawnFragments, firstFree, draw}
 use Rattle.writer.specs.Redraw.{GapDrawn, Redrawn}
-use Rattle.writer.proofs.Opened.{piece, oneFragment, Opened}
+use Rattle.fragment.proofs.Opened.{oneFragment, Opened}
+use Rattle.writer.proofs.Opened.{piece}
 
 -- a gap and a fragment before others
 gap-more : (idlen hole at n id len : ℕ) (fs : List Fragment) (D : List Bool)

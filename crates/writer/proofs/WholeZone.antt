@@ -27,7 +27,8 @@ use Rattle.zone.specs.Lines.{entriesIn}
 use Rattle.zone.proofs.AllocBits.{alloc-slice, first-high}
 use Rattle.writer.specs.declared.Plan.{Plan}
 use Rattle.writer.specs.ZoneEdit.{editedPieces, ZoneEdit}
-use Rattle.writer.specs.Redraw.{readFrom, CanRead, ownedIn, Redrawn}
+use Rattle.fragment.specs.Reading.{readFrom, CanRead}
+use Rattle.writer.specs.Redraw.{ownedIn, Redrawn}
 use Rattle.writer.specs.Merge.{inBlock, mergedFrom, RedrawAsks}
 use Rattle.writer.proofs.Sealed.{sealed-written}
 

@@ -13,7 +13,8 @@ use Rattle.calls.specs.Edits.{without, put, own}
 use Rattle.calls.specs.Judge.{pairsFrom}
 use Rattle.writer.specs.declared.Plan.{Plan}
 use Rattle.writer.specs.declared.Stretch.{Stretch}
-use Rattle.writer.specs.Redraw.{idAt, readFrom, CanRead, piecesFrom, ZoneBits}
+use Rattle.fragment.specs.Reading.{idAt, readFrom, CanRead}
+use Rattle.writer.specs.Redraw.{piecesFrom, ZoneBits}
 
 -- a pair of a list in the block bits of the zone whose z*Z is `low`
 abbrev pub inBlock : ℕ → Pair → Pair

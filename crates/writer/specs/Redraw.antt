@@ -6,31 +6,11 @@ use mathlib.Core.Option.{Option, none, some}
 use Prim.Native.Nat.{ℕ, _+_, _*_, _^_, _<_, _≤_}
 use lib.Dec.{ltb}
 use lib.ListN.{take, drop}
-use lib.Seq.{slice}
-use Rattle.bits.specs.Bits.{value, zeros}
-use Rattle.model.specs.Fragments.{Fragment, fragmentBits, fragmentsIn}
-use Rattle.model.specs.Chain.{Entry, follow}
+use Rattle.fragment.specs.Reading.{readFrom}
+use Rattle.model.specs.Fragments.{fragmentBits}
+use Rattle.model.specs.Chain.{Entry}
 use Rattle.model.specs.Pieces.{Piece, ownedOf}
 use Rattle.model.specs.Drawing.{GapRoom, gap, firstFree, draw}
-
--- the fragment at a place: its id, and its length with the closing bit
-abbrev pub idAt : ℕ → ℕ → List Bool → ℕ
-idAt idlen at bits = value (slice at (at + idlen) bits)
-
-abbrev pub lengthAt : ℕ → ℕ → ℕ → List Bool → ℕ
-lengthAt idlen at end bits = idlen + zeros (slice (at + idlen) end bits) + 1
-
--- the entries from `at` to `end`, where the chain leads next to `chain`
-abbrev pub followFrom : ℕ → ℕ → Option (List Fragment) → Option (List Entry)
-followFrom at chain none = none
-followFrom at chain (some fs) = follow at chain fs
-
-abbrev pub readFrom : ℕ → ℕ → ℕ → ℕ → List Bool → Option (List Entry)
-readFrom idlen at end chain bits = followFrom at chain (fragmentsIn idlen (slice at end bits))
-
-abbrev pub CanRead : Option (List Entry) → Type 0
-CanRead none = ⊥
-CanRead (some es) = Unit {0}
 
 -- and their owned pieces
 abbrev pub ownedIn : Option (List Entry) → List Piece

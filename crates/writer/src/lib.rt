@@ -19,7 +19,7 @@ ghost use Rattle.model.specs.Fragments.{closed};
 ghost use Rattle.calls.specs.Judge.{pairsFrom};
 ghost use Rattle.runs.specs.Written.{sealed, written};
 ghost use Rattle.writer.specs.ZoneEdit.{editedPieces, ZoneEdit};
-ghost use Rattle.writer.specs.Redraw.{idAt, lengthAt, GapAsks, GapDrawn, Redrawn};
+ghost use Rattle.writer.specs.Redraw.{GapAsks, GapDrawn, Redrawn};
 ghost use Rattle.writer.specs.Merge.{firstStretch, ReadableFrom, PassedOver, Stays, mergedFrom, RedrawAsks};
 
 // Zone z of an edit: the pieces of `gone` leave it (0 for none), the pairs of `list` come as pieces of `id`, and its cross check
@@ -66,12 +66,6 @@ struct Standing {
     chain: usize,
 }
 
-// A fragment as it is read: its id and its length.
-struct Fragment {
-    id: u32,
-    len: usize,
-}
-
 // A stretch of block bits.
 struct Stretch {
     start: usize,
@@ -103,7 +97,7 @@ fn redraw(
     if plan.end <= here.at {
         return draw_gap(block, hole, plan.end, 0, plan.idlen);
     }
-    let past = here.at + whole_fragment(block, here.at, plan.end, plan.idlen).len;
+    let past = here.at + fragment::whole_fragment(block, here.at, plan.end, plan.idlen).len;
     let next = redraw(block, list, j, past, past, here.chain, plan);
     draw_gap(block, hole, here.at, next, plan.idlen)
 }
@@ -117,7 +111,7 @@ fn pass_over(block: &[u8], from: usize, first: usize, plan: Plan) -> Standing
     let mut at = from;
     let mut chain = first;
     while at < plan.end {
-        let f = whole_fragment(block, at, plan.end, plan.idlen);
+        let f = fragment::whole_fragment(block, at, plan.end, plan.idlen);
         if bits::both(at != chain, f.id != plan.gone) {
             return Standing { at, chain };
         }
@@ -125,19 +119,6 @@ fn pass_over(block: &[u8], from: usize, first: usize, plan: Plan) -> Standing
         at += f.len;
     }
     Standing { at, chain }
-}
-
-// The fragment at `at`, whose closing bit stands before `end`: in a zone that keeps the rules each one's does.
-fn whole_fragment(block: &[u8], at: usize, end: usize, idlen: usize) -> Fragment
-    requires { ⌜ (idlen ≤ 31) × (end ≤ length (now block) * 8) × (at + lengthAt idlen at end (byteBits (now block)) ≤ end) ⌝ }
-    ensures { λ r. ⌜ (r .id ≡ idAt idlen at (byteBits (now (block .entry)))) × (r .len ≡ lengthAt idlen at end (byteBits (now (block .entry)))) ⌝ }
-{
-    let close = fragment::closing_bit(block, at + idlen, end);
-    let id = bits::number(block, at, idlen);
-    Fragment {
-        id,
-        len: close + 1 - at,
-    }
 }
 
 // The pair at entry j of the list in the block bits of the zone, or no bits at `end` where the list has ended.

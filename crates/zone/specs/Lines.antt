@@ -1,9 +1,8 @@
--- The fragments of a zone as numbers: owner (0 for a free one), disc bit, length. Assumes nothing.
+-- The entries of a zone that keeps the rules, and the number of a holder, 0 for a free one. Assumes nothing.
 use mathlib.Core.Path.{_≡_}
-use mathlib.Core.List.{List, [], _∷_}
+use mathlib.Core.List.{List, []}
 use Prim.Native.Nat.{ℕ}
 use Rattle.geometry.specs.declared.Geometry.{Geometry}
-use Rattle.geometry.specs.Places.{discBit}
 use Rattle.model.specs.Chain.{Holder, free, owned, Entry}
 use Rattle.model.specs.Check.{ZoneRead, fault, sound, zoneRead}
 
@@ -22,7 +21,3 @@ IsRead g z block = zoneRead g z block ≡ sound (entriesIn g z block)
 abbrev pub holderNumber : Holder → ℕ
 holderNumber free = 0
 holderNumber (owned id) = id
-
-abbrev pub lines : Geometry → ℕ → List Entry → List ℕ
-lines g z [] = []
-lines g z (e ∷ es) = holderNumber (e .holder) ∷ discBit g z (e .at .start) ∷ e .at .len ∷ lines g z es

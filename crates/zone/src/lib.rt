@@ -8,16 +8,14 @@ use fragment::next_after;
 use geometry::BlockBit;
 use geometry::Geometry;
 ghost use mathlib.Core.Path.{_≡_};
-ghost use mathlib.Core.List.{[], _∷_, _++_};
-ghost use Prim.Native.Nat.{_+_, _-_, _*_, _<_, _≤_};
-ghost use lib.ListN.{length, take, drop};
+ghost use Prim.Native.Nat.{_<_, _≤_};
+ghost use lib.ListN.{length};
 ghost use Rattle.geometry.specs.Accepted.{AcceptedGeometry};
 ghost use Rattle.geometry.specs.Places.{firstBit, endBit};
 ghost use Rattle.model.specs.Chain.{onward};
 ghost use Rattle.model.specs.Blocks.{freeLink, linkIn};
 ghost use Rattle.model.specs.Check.{zoneRead, holderFits};
 ghost use Rattle.zone.specs.Walk.{holderOf, endHolds, firstHolds, entryHolds, verdictOf};
-ghost use Rattle.zone.specs.Lines.{entriesIn, IsRead, lines, holderNumber};
 
 // A zone that keeps the rules, or the number that it is refused with.
 pub enum ZoneVerdict {
@@ -130,49 +128,4 @@ fn entry_holds(g: Geometry, z: usize, first: bool, free: bool, id: usize, to: us
         both(id_holds(g, free, id), end_holds(g, z, to, free, id)),
         first_holds(g, z, first, free, id),
     )
-}
-
-// The fragments of a zone that keeps the rules, ascending: owner (0 for a free one), disc bit, length. Answers how many. A buffer of
-// 2,048 numbers holds the lines of every zone: a fragment has at least 12 bits, so there are at most 680 of them.
-pub fn list_zone(block: &[u8], z: usize, g: Geometry, out: &mut [u32]) -> usize
-    requires { ⌜ AcceptedGeometry g × (z < g .zones) × (length (now block) ≡ g .sector) × IsRead g z (now block) × (3 * length (entriesIn g z (now block)) ≤ length (now out)) ⌝ }
-    ensures count { λ r. ⌜ r ≡ length (entriesIn g z (now (block .entry))) ⌝ }
-    ensures list { λ r. ⌜ now (out .exit) ≡ lines g z (entriesIn g z (now (block .entry))) ++ drop (3 * r) (now (out .entry)) ⌝ }
-{
-    let end = g.zone_end().0;
-    let mut at = g.zone_first(z).0;
-    let mut next = first_free(block);
-    let mut n = 0;
-    while at < end {
-        match fragment::fragment_at(block, at, end, g.idlen, g.cluster) {
-            Found::Whole { id, len } => {
-                let d = g.disc_bit(z, BlockBit(at)).0;
-                put_three(out, 3 * n, holder(at == next, id), d as u32, len as u32);
-                next = next_after(at, next, id as usize);
-                at += len;
-                n += 1;
-            }
-            Found::Broken => {
-                return n;
-            }
-        }
-    }
-    n
-}
-
-// The owner's number, 0 for a free fragment.
-fn holder(free: bool, id: u32) -> u32
-    ensures { λ r. ⌜ r ≡ holderNumber (holderOf free id) ⌝ }
-{
-    if free { 0 } else { id }
-}
-
-// Three numbers stored from place i on.
-fn put_three(out: &mut [u32], i: usize, a: u32, b: u32, c: u32)
-    requires { ⌜ i + 3 ≤ length (now out) ⌝ }
-    ensures { λ _. ⌜ now (out .exit) ≡ take i (now (out .entry)) ++ (a ∷ b ∷ c ∷ []) ++ drop (i + 3) (now (out .entry)) ⌝ }
-{
-    out[i] = a;
-    out[i + 1] = b;
-    out[i + 2] = c;
 }

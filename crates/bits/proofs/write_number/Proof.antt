@@ -1,8 +1,7 @@
 -- What is left to write, written into the bits so far, is the whole number written.
-use Prim.Native.Nat.{_+_, _-_, _≤_, _/_}
-use mathlib.Core.Path.{_≡_, refl, ap, _∙_}
-use mathlib.Core.Bool.{Bool}
-use mathlib.Core.List.{List}
+use Prim.Native.Nat.{_+_, _-_, _≤_}
+use mathlib.Core.Path.{_≡_, refl, _∙_}
+use native.Mathlib.Omega.{arith}
 use lib.ListN.{length}
 use lib.Seq.{sets}
 use Rattle.bits.specs.Bits.{byteBits, numberBits}
@@ -22,11 +21,14 @@ loop-holds c =
     let a = c .before .args in
     (search needs, refl, write-first (a .at) (a .n) (byteBits (a .s .now)) (a .v))
 
-add-write-bit : tie.Need-add-write-bit Inv-loop μ-loop
-add-write-bit c = search needs
+add-write-some : tie.Need-add-write-some Inv-loop μ-loop
+add-write-some c = search needs
 
-write-bit-requires : tie.Need-write-bit-requires Inv-loop μ-loop
-write-bit-requires c κs = search needs
+sub-write-some : tie.Need-sub-write-some Inv-loop μ-loop
+sub-write-some c = search needs
+
+write-some-requires : tie.Need-write-some-requires Inv-loop μ-loop
+write-some-requires c κs = search needs
 
 add-i : tie.Need-add-i Inv-loop μ-loop
 add-i c = search needs
@@ -36,12 +38,13 @@ loop-less c = search needs
 
 loop-again : tie.Need-loop-again Inv-loop μ-loop
 loop-again c =
-    let p = c .before .before .before .before .before in
-    let a = p .before .before .args in (
-      search needs,
-      search needs,
-      ap (λ (B : List Bool). sets B (a .at + (p .loop .i + 1)) (numberBits (a .n - (p .loop .i + 1)) (p .loop .w / 2))) (c .before .before .write-bit .ensures)
-          ∙ write-step (a .at) (a .n) (byteBits (p .loop .s)) (p .loop .i) (p .loop .w) (search needs) ∙ p .loop .inv .2,
+    let u = c .before .before .before in
+    let p = u .before .before .before in
+    let a = p .before .before .args in
+    let r = u .write-some in (
+      omega (arith, r .ensures .0 .1, p .loop .inv .0),
+      r .kept .0 ∙ p .loop .inv .1,
+      write-step (a .at) (a .n) (byteBits (r .last .0)) (p .loop .i) (r .result .bits) (r .result .left) (r .ensures .0 .1) (r .ensures .1) ∙ p .loop .inv .2,
     )
 
 same-length : tie.Need-same-length Inv-loop μ-loop
@@ -60,8 +63,9 @@ write-number-spec =
     Inv-loop
     μ-loop
     loop-holds
-    add-write-bit
-    write-bit-requires
+    add-write-some
+    sub-write-some
+    write-some-requires
     add-i
     loop-less
     loop-again

@@ -1,73 +1,70 @@
--- From zone z on the lowest zone told is that of all zones. The measure is what is left of the zones.
-use Prim.Native.Nat.{_-_, _≤_}
-use mathlib.Core.Path.{sym, ap, _∙_}
+-- The lowest zone told by the lines that remain is that of all zones. The measure is how many lines remain.
+use mathlib.Core.Path.{_≡_, sym, ap, _∙_}
+use mathlib.Core.Bool.{Bool, _&&_}
 use native.Mathlib.Omega.{arith}
-use borrow.Author.Tests.{not-true, not-false}
-use Rattle.model.proofs.ByPlace.{zone-end}
-use Rattle.listing.proofs.HeldZones.{zone-reads}
-use Rattle.holes.specs.Touching.{touchingOf}
-use Rattle.holes.proofs.ZonesTouching.{TouchingFrom, touching-starts, touching-turn, touching-stops, touching-ends}
+use lib.Dec.{eqb}
+use lib.ListN.{length}
+use Rattle.runs.specs.Steps.{touching}
+use Rattle.runs.specs.Editable.{zonesOf}
+use Rattle.walk.specs.Remaining.{remaining, Stands}
+use Rattle.walk.proofs.Remains.{fewer}
+use Rattle.holes.specs.Touching.{touchingOf, touchingLines}
+use Rattle.holes.proofs.ZonesTouching.{touching-starts, touching-turn, touching-stops, touching-ends}
 use borrow.Author.Needs.{needs}
 use Rattle.holes.proofs.first_touching.Statement.{statement}
 use Rattle.holes.proofs.first_touching.Tie as tie
 
 abbrev Inv-loop : tie.InvT-loop
-Inv-loop map g zones size z₀ z = (z ≤ g .zones) × TouchingFrom map g z
+Inv-loop map g zones z₀ free₀ w₀ z free w = Stands map g w × (touchingLines z free (remaining map g (g .zones) w) ≡ touching 0 (zonesOf map))
 
 abbrev μ-loop : tie.MeasureT-loop
-μ-loop map g zones size z₀ z = g .zones - z
+μ-loop map g zones z₀ free₀ w₀ z free w = length (remaining map g (g .zones) w)
+
+from-zone-requires : tie.Need-from-zone-requires Inv-loop μ-loop
+from-zone-requires c κs = search needs
 
 loop-holds : tie.Need-loop-holds Inv-loop μ-loop
-loop-holds c = (search needs, touching-starts (c .before .pre))
+loop-holds c = (c .from-zone .ensures .stands, touching-starts (c .before .before .pre) (c .from-zone .ensures))
 
-mul-a : tie.Need-mul-a Inv-loop μ-loop
-mul-a c = let s = c .before .before .before in omega (arith, zone-end (s .args .g .zones) (s .args .g .sector) (c .before .loop .z) (c .loop-test .taken), s .pre .sized)
+next-requires : tie.Need-next-requires Inv-loop μ-loop
+next-requires c κs = let p = c .before .before in (p .before .before .before .pre, c .if1 .taken, p .loop .inv .0)
 
-add-e : tie.Need-add-e Inv-loop μ-loop
-add-e c = let s = c .before .before .before in omega (arith, zone-end (s .args .g .zones) (s .args .g .sector) (c .before .loop .z) (c .loop-test .taken), s .pre .sized)
+both-requires : tie.Need-both-requires Inv-loop μ-loop
+both-requires c κs = search needs
 
-sub-none-touch : tie.Need-sub-none-touch Inv-loop μ-loop
-sub-none-touch c = search needs
+both-requires-2 : tie.Need-both-requires-2 Inv-loop μ-loop
+both-requires-2 c κs = search needs
 
-part-none-touch-start : tie.Need-part-none-touch-start Inv-loop μ-loop
-part-none-touch-start c = search needs
+-- whether the line follows a free one of its zone and is free
+test : (c : tie.After-both2 Inv-loop μ-loop) → let d = c .before .before .before .before .before in let p = d .before .before .before in
+    c .both2 .result ≡ (p .loop .free && eqb (d .next .result .line .holder) 0) && eqb (d .next .result .line .zone) (p .loop .z)
+test c = let d = c .before .before .before .before .before in c .both2 .ensures ∙ ap (λ (x : Bool). x && eqb (d .next .result .line .zone) (d .before .before .before .loop .z)) (c .before .before .both .ensures)
 
-part-none-touch-end : tie.Need-part-none-touch-end Inv-loop μ-loop
-part-none-touch-end c = let s = c .before .before .before in omega (arith, zone-end (s .args .g .zones) (s .args .g .sector) (c .before .loop .z) (c .loop-test .taken), s .pre .sized)
-
-none-touch-requires : tie.Need-none-touch-requires Inv-loop μ-loop
-none-touch-requires c κs = let p = c .before .before in zone-reads (p .before .before .pre) (p .loop .z) (c .before .loop-test .taken)
-
-cast-t14 : tie.Need-cast-t14 Inv-loop μ-loop
-cast-t14 c =
-    let p = c .before .before .before .before in
-    omega (arith, c .before .before .before .loop-test .taken, p .before .before .pre .numbers .zones-high)
+cast-t13 : tie.Need-cast-t13 Inv-loop μ-loop
+cast-t13 c = let d = c .before .before .before .before .before .before .before in omega (arith, d .next .ensures .here, d .before .if1 .taken, d .before .before .before .before .before .before .pre .numbers .zones-high)
 
 returns : tie.Need-returns Inv-loop μ-loop
 returns c =
-    let p = c .before .before .before .before in
-    let a = p .before .before .args in
-    let e = sym (c .before .none-touch .ensures) ∙ not-true (c .before .none-touch .result) (c .if1 .taken) in
-    ap touchingOf (sym (touching-stops (a .map .now) (a .g) (p .loop .z) (p .loop .inv .1) (c .before .before .before .loop-test .taken) e))
-
-add-z : tie.Need-add-z Inv-loop μ-loop
-add-z c = search needs
+    let t = c .before .before in
+    let d = t .before .before .before .before .before in
+    let p = d .before .before .before in
+    ap touchingOf (sym (touching-stops (d .next .ensures) (d .before .if1 .taken) (p .loop .z) (p .loop .free) (sym (test t) ∙ c .before .if2 .taken)) ∙ p .loop .inv .1)
 
 loop-less : tie.Need-loop-less Inv-loop μ-loop
-loop-less c = search needs
+loop-less c = let d = c .before .before .before .before .before .before .before in fewer (d .next .ensures) (d .before .before .before .before .before .before .args .g .zones) (omega arith) (d .before .if1 .taken)
 
 loop-again : tie.Need-loop-again Inv-loop μ-loop
 loop-again c =
-    let p = c .before .before .before .before in
-    let a = p .before .before .args in
-    let e = sym (c .before .none-touch .ensures) ∙ not-false (c .before .none-touch .result) (c .if1 .left) in
-    (search needs, touching-turn (a .map .now) (a .g) (p .loop .z) (p .loop .inv .1) (c .before .before .before .loop-test .taken) e)
+    let t = c .before .before in
+    let d = t .before .before .before .before .before in
+    let p = d .before .before .before in
+    (d .next .ensures .stands, sym (touching-turn (d .next .ensures) (d .before .if1 .taken) (p .loop .z) (p .loop .free) (sym (test t) ∙ c .before .if2 .left)) ∙ p .loop .inv .1)
 
 returns-2 : tie.Need-returns-2 Inv-loop μ-loop
 returns-2 c =
-    let p = c .before in
-    let a = p .before .before .args in
-    ap touchingOf (sym (touching-ends (a .map .now) (a .g) (p .loop .z) (p .loop .inv .1) (c .loop-test .left)))
+    let p = c .before .before in
+    let a = p .before .before .before .args in
+    ap touchingOf (sym (touching-ends (a .map .now) (a .g) (p .loop .w) (p .loop .z) (p .loop .free) (c .if1 .left)) ∙ p .loop .inv .1)
 
 pub first-touching-spec : {M : Type 1} → statement M
 first-touching-spec =
@@ -75,16 +72,13 @@ first-touching-spec =
     (tie.spec
     Inv-loop
     μ-loop
+    from-zone-requires
     loop-holds
-    mul-a
-    add-e
-    sub-none-touch
-    part-none-touch-start
-    part-none-touch-end
-    none-touch-requires
-    cast-t14
+    next-requires
+    both-requires
+    both-requires-2
+    cast-t13
     returns
-    add-z
     loop-less
     loop-again
     returns-2)

@@ -1,66 +1,63 @@
--- The count so far and that of the zones to come are together that of all zones. The measure is what is left of the zones.
-use Prim.Native.Nat.{ℕ, _+_, _-_, _*_, _≤_}
-use mathlib.Core.Path.{_≡_, ap}
+-- The count so far and that of the lines that remain are together that of all zones. The measure is how many lines remain.
+use Prim.Native.Nat.{_+_}
+use mathlib.Core.Path.{_≡_, ap, _∙_}
 use native.Mathlib.Nat.{sub-zero}
 use native.Mathlib.Omega.{arith}
 use lib.ListN.{length}
-use Rattle.model.proofs.ByPlace.{zone-end}
-use Rattle.listing.specs.HeldBy.{heldFrom}
-use Rattle.listing.proofs.HeldZones.{held-end, zone-counted, zone-reads}
+use Rattle.walk.specs.Remaining.{remaining, Stands}
+use Rattle.walk.proofs.Remains.{fewer}
+use Rattle.listing.specs.HeldBy.{heldLines, heldFrom}
+use Rattle.listing.proofs.HeldLines.{held-starts, held-none, line-counted}
+use Rattle.listing.proofs.Ascend.{held-few}
 use borrow.Author.Needs.{needs}
 use Rattle.listing.proofs.count_zones.Statement.{statement}
 use Rattle.listing.proofs.count_zones.Tie as tie
 
 abbrev Inv-loop : tie.InvT-loop
-Inv-loop map g holder zones size n₀ z₀ n z = (z ≤ g .zones) × (n ≤ 683 * z) × (n + length (heldFrom g holder map z (g .zones - z)) ≡ length (heldFrom g holder map 0 (g .zones)))
+Inv-loop map g holder zones n₀ w₀ n w = Stands map g w × (n + length (heldLines holder (remaining map g (g .zones) w)) ≡ length (heldFrom g holder map 0 (g .zones)))
 
 abbrev μ-loop : tie.MeasureT-loop
-μ-loop map g holder zones size n₀ z₀ n z = g .zones - z
+μ-loop map g holder zones n₀ w₀ n w = length (remaining map g (g .zones) w)
+
+from-zone-requires : tie.Need-from-zone-requires Inv-loop μ-loop
+from-zone-requires c κs = search needs
 
 loop-holds : tie.Need-loop-holds Inv-loop μ-loop
 loop-holds c =
-    let a = c .before .args in
-    (search needs, search needs, omega (arith, ap (λ (x : ℕ). length (heldFrom (a .g) (a .holder) (a .map .now) 0 x)) (sub-zero (a .g .zones))))
+    let a = c .before .before .args in
+    let e = held-starts (a .holder) (c .from-zone .ensures) (a .g .zones) (omega arith) ∙ ap (heldFrom (a .g) (a .holder) (a .map .now) 0) (sub-zero (a .g .zones)) in
+    (c .from-zone .ensures .stands, omega (arith, ap length e))
 
-mul-a : tie.Need-mul-a Inv-loop μ-loop
-mul-a c = let s = c .before .before .before in omega (arith, zone-end (s .args .g .zones) (s .args .g .sector) (c .before .loop .z) (c .loop-test .taken), s .pre .sized)
+next-requires : tie.Need-next-requires Inv-loop μ-loop
+next-requires c κs = let p = c .before .before in (p .before .before .before .pre, c .if1 .taken, p .loop .inv .0)
 
-add-e : tie.Need-add-e Inv-loop μ-loop
-add-e c = let s = c .before .before .before in omega (arith, zone-end (s .args .g .zones) (s .args .g .sector) (c .before .loop .z) (c .loop-test .taken), s .pre .sized)
+same-requires : tie.Need-same-requires Inv-loop μ-loop
+same-requires c κs = search needs
 
-sub-count-zone : tie.Need-sub-count-zone Inv-loop μ-loop
-sub-count-zone c = search needs
-
-part-count-zone-start : tie.Need-part-count-zone-start Inv-loop μ-loop
-part-count-zone-start c = search needs
-
-part-count-zone-end : tie.Need-part-count-zone-end Inv-loop μ-loop
-part-count-zone-end c = let s = c .before .before .before in omega (arith, zone-end (s .args .g .zones) (s .args .g .sector) (c .before .loop .z) (c .loop-test .taken), s .pre .sized)
-
-count-zone-requires : tie.Need-count-zone-requires Inv-loop μ-loop
-count-zone-requires c κs = let p = c .before .before in zone-reads (p .before .before .pre) (p .loop .z) (c .before .loop-test .taken)
+-- one line more is counted
+counted : (c : tie.After-same Inv-loop μ-loop) → let p = c .before .before .before .before in let a = p .before .before .before .args in
+    p .loop .n + c .same .result + length (heldLines (a .holder) (remaining (a .map .now) (a .g) (a .g .zones) (c .before .next .result .after))) ≡ length (heldFrom (a .g) (a .holder) (a .map .now) 0 (a .g .zones))
+counted c =
+    let p = c .before .before .before .before in
+    let a = p .before .before .before .args in
+    line-counted (a .holder) (c .before .next .ensures) (a .g .zones) (omega arith) (c .before .before .if1 .taken) (p .loop .n) (c .same .result) (p .loop .inv .1) (c .same .ensures .0)
 
 add-n : tie.Need-add-n Inv-loop μ-loop
-add-n c = let p = c .before .before .before in omega (arith, c .count-zone .ensures .1, p .loop .inv .1, p .before .before .pre .numbers .zones-high)
-
-add-z : tie.Need-add-z Inv-loop μ-loop
-add-z c = search needs
+add-n c =
+    let s = c .before .before .before .before .before .before .before in
+    omega (arith, counted c, held-few (s .pre) (s .args .holder) 0 (s .args .g .zones) (omega arith), s .pre .numbers .zones-high)
 
 loop-less : tie.Need-loop-less Inv-loop μ-loop
-loop-less c = search needs
+loop-less c = let d = c .before .before in fewer (d .next .ensures) (d .before .before .before .before .before .before .args .g .zones) (omega arith) (d .before .if1 .taken)
 
 loop-again : tie.Need-loop-again Inv-loop μ-loop
-loop-again c =
-    let p = c .before .before .before in
-    let s = p .before .before in
-    let a = s .args in
-    (search needs, omega (arith, c .count-zone .ensures .1, p .loop .inv .1), zone-counted (a .g) (a .holder) (a .map .now) (p .loop .z) (a .g .zones) (p .loop .n) _ (c .count-zone .result) (c .before .before .loop-test .taken) (p .loop .inv .2) (c .count-zone .ensures .0))
+loop-again c = (c .before .before .next .ensures .stands, counted (c .before))
 
 returns : tie.Need-returns Inv-loop μ-loop
 returns c =
-    let p = c .before in
-    let a = p .before .before .args in
-    omega (arith, p .loop .inv .2, ap length (held-end (a .g) (a .holder) (a .map .now) (p .loop .z) (a .g .zones) (c .loop-test .left)))
+    let p = c .before .before in
+    let a = p .before .before .before .args in
+    omega (arith, p .loop .inv .1, ap length (held-none (a .holder) (a .map .now) (a .g) (a .g .zones) (p .loop .w) (c .if1 .left)))
 
 pub count-zones-spec : {M : Type 1} → statement M
 count-zones-spec =
@@ -68,15 +65,11 @@ count-zones-spec =
     (tie.spec
     Inv-loop
     μ-loop
+    from-zone-requires
     loop-holds
-    mul-a
-    add-e
-    sub-count-zone
-    part-count-zone-start
-    part-count-zone-end
-    count-zone-requires
+    next-requires
+    same-requires
     add-n
-    add-z
     loop-less
     loop-again
     returns)

@@ -1,69 +1,68 @@
--- What is stored so far, with the zones to come stored after it, is all the zones stored. The measure is what is left of the
--- zones.
-use Prim.Native.Nat.{_-_, _≤_}
-use mathlib.Core.Path.{refl}
-use native.Mathlib.Omega.{arith}
-use Rattle.model.proofs.ByPlace.{zone-end}
-use Rattle.listing.specs.HeldBy.{heldFrom}
+-- What is stored so far, with the pairs of the lines that remain stored after it, is all pairs stored. The measure is how many lines
+-- remain.
+use Prim.Native.Nat.{_-_}
+use lib.ListN.{length}
+use Rattle.walk.specs.Remaining.{remaining, Stands}
+use Rattle.walk.proofs.Remains.{fewer}
+use Rattle.listing.specs.HeldBy.{heldLines, heldFrom}
 use Rattle.listing.proofs.Stored.{StoredSoFar, stored-starts, stored-ends}
-use Rattle.listing.proofs.HeldZones.{held-end, zone-room, zone-stored, zone-reads}
+use Rattle.listing.proofs.HeldLines.{held-starts, held-none, line-room, line-stored}
+use native.Mathlib.Omega.{arith}
 use borrow.Author.Needs.{needs}
 use Rattle.listing.proofs.write_zones.Statement.{statement}
 use Rattle.listing.proofs.write_zones.Tie as tie
 
 abbrev Inv-loop : tie.InvT-loop
-Inv-loop map g holder from to pairs₀ at size i₀ z₀ pairs i z = (z ≤ to) × StoredSoFar pairs₀ pairs at i (heldFrom g holder map from (to - from)) (heldFrom g holder map z (to - z))
+Inv-loop map g holder from to pairs₀ at i₀ w₀ pairs i w =
+    Stands map g w × StoredSoFar pairs₀ pairs at i (heldFrom g holder map from (to - from)) (heldLines holder (remaining map g to w))
 
 abbrev μ-loop : tie.MeasureT-loop
-μ-loop map g holder from to pairs₀ at size i₀ z₀ pairs i z = to - z
+μ-loop map g holder from to pairs₀ at i₀ w₀ pairs i w = length (remaining map g to w)
+
+from-zone-requires : tie.Need-from-zone-requires Inv-loop μ-loop
+from-zone-requires c κs = search needs
 
 loop-holds : tie.Need-loop-holds Inv-loop μ-loop
-loop-holds c = let s = c .before .before in (s .pre .1, stored-starts (s .args .pairs .now) (s .args .at) refl)
-
-mul-a : tie.Need-mul-a Inv-loop μ-loop
-mul-a c = let s = c .before .before .before .before in omega (arith, zone-end (s .args .g .zones) (s .args .g .sector) (c .before .loop .z) (omega (arith, c .loop-test .taken, s .pre .2)), s .pre .0 .sized)
-
-add-e : tie.Need-add-e Inv-loop μ-loop
-add-e c = let s = c .before .before .before .before in omega (arith, zone-end (s .args .g .zones) (s .args .g .sector) (c .before .loop .z) (omega (arith, c .loop-test .taken, s .pre .2)), s .pre .0 .sized)
-
-sub-write-zone : tie.Need-sub-write-zone Inv-loop μ-loop
-sub-write-zone c = search needs
-
-part-write-zone-start : tie.Need-part-write-zone-start Inv-loop μ-loop
-part-write-zone-start c = search needs
-
-part-write-zone-end : tie.Need-part-write-zone-end Inv-loop μ-loop
-part-write-zone-end c = let s = c .before .before .before .before in omega (arith, zone-end (s .args .g .zones) (s .args .g .sector) (c .before .loop .z) (omega (arith, c .loop-test .taken, s .pre .2)), s .pre .0 .sized)
-
-write-zone-requires : tie.Need-write-zone-requires Inv-loop μ-loop
-write-zone-requires c κs =
-    let p = c .before .before .before in
-    let s = p .before .before .before in
+loop-holds c =
+    let s = c .before .before .before in
     let a = s .args in
-    let t = c .before .before .loop-test .taken in
-    (zone-reads (s .pre .0) (p .loop .z) (omega (arith, t, s .pre .2)), zone-room (a .g) (a .holder) (a .map .now) (p .loop .inv .1) t (s .pre .3))
+    (c .from-zone .ensures .stands, stored-starts (a .pairs .now) (a .at) (held-starts (a .holder) (c .from-zone .ensures) (a .to) (s .pre .2)))
 
-add-z : tie.Need-add-z Inv-loop μ-loop
-add-z c = search needs
+next-requires : tie.Need-next-requires Inv-loop μ-loop
+next-requires c κs =
+    let p = c .before .before in
+    let s = p .before .before .before .before in
+    (s .pre .0, omega (arith, c .if1 .taken, s .pre .2), p .loop .inv .0)
+
+put-if-requires : tie.Need-put-if-requires Inv-loop μ-loop
+put-if-requires c κs =
+    let d = c .before .before .before in
+    let p = d .before .before .before in
+    let s = p .before .before .before .before in
+    line-room (s .args .holder) (d .next .ensures) (s .args .to) (s .pre .2) (d .before .if1 .taken) (p .loop .inv .1) (s .pre .3)
 
 loop-less : tie.Need-loop-less Inv-loop μ-loop
-loop-less c = search needs
+loop-less c =
+    let d = c .before .before .before .before .before .before .before in
+    let s = d .before .before .before .before .before .before .before in
+    fewer (d .next .ensures) (s .args .to) (s .pre .2) (d .before .if1 .taken)
 
 loop-again : tie.Need-loop-again Inv-loop μ-loop
 loop-again c =
-    let u = c .before .before in
-    let p = u .before .before .before .before in
-    let a = p .before .before .before .args in
-    (search needs, zone-stored (a .g) (a .holder) (a .map .now) (p .loop .inv .1) (u .before .before .before .loop-test .taken) (u .write-zone .ensures .0) (u .write-zone .ensures .1))
+    let u = c .before .before .before in
+    let d = u .before .before .before .before in
+    let p = d .before .before .before in
+    let s = p .before .before .before .before in
+    (d .next .ensures .stands, line-stored (s .args .holder) (d .next .ensures) (s .args .to) (s .pre .2) (d .before .if1 .taken) (p .loop .inv .1) (u .put-if .ensures .0) (u .put-if .ensures .1))
 
 same-length : tie.Need-same-length Inv-loop μ-loop
-same-length c = c .before .loop .inv .1 .kept
+same-length c = c .before .before .loop .inv .1 .kept
 
 returns : tie.Need-returns Inv-loop μ-loop
 returns c =
-    let p = c .before in
-    let a = p .before .before .before .args in
-    stored-ends (p .loop .inv .1) (held-end (a .g) (a .holder) (a .map .now) (p .loop .z) (a .to) (c .loop-test .left))
+    let p = c .before .before in
+    let a = p .before .before .before .before .args in
+    stored-ends (p .loop .inv .1) (held-none (a .holder) (a .map .now) (a .g) (a .to) (p .loop .w) (c .if1 .left))
 
 pub write-zones-spec : {M : Type 1} → statement M
 write-zones-spec =
@@ -71,14 +70,10 @@ write-zones-spec =
     (tie.spec
     Inv-loop
     μ-loop
+    from-zone-requires
     loop-holds
-    mul-a
-    add-e
-    sub-write-zone
-    part-write-zone-start
-    part-write-zone-end
-    write-zone-requires
-    add-z
+    next-requires
+    put-if-requires
     loop-less
     loop-again
     same-length

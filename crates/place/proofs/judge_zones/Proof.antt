@@ -6,7 +6,6 @@ use Rattle.place.specs.Parts.{Walking}
 use Rattle.calls.specs.Judge.{pairsFrom}
 use Rattle.calls.specs.Holes.{allApart}
 use Rattle.calls.specs.Edits.{give, touchedFrom}
-use Rattle.model.proofs.ByPlace.{zone-end}
 use Rattle.model.specs.Pieces.{Piece}
 use Rattle.checks.specs.Cross.{touchedCount}
 use mathlib.Core.List.{List}
@@ -20,13 +19,13 @@ use Rattle.place.proofs.judge_zones.Tie as tie
 use Rattle.runs.specs.Editable.{piecesOn}
 
 abbrev Inv-loop : tie.InvT-loop
-Inv-loop map g start late list zones size fits₀ touched₀ i₀ z₀ fits touched i z =
+Inv-loop map g start late list zones fits₀ touched₀ i₀ z₀ fits touched i z =
     (z ≤ g .zones) × (touched ≤ z)
     × ((id : ℕ) → fits && allApart g z (g .zones - z) (give id (pairsFrom list) (piecesOn g map)) ≡ allApart g 0 (g .zones) (give id (pairsFrom list) (piecesOn g map)))
     × (touched ≡ touchedCount (touchedFrom g (pairsFrom list) 0 z)) × Walking g list start z i
 
 abbrev μ-loop : tie.MeasureT-loop
-μ-loop map g start late list zones size fits₀ touched₀ i₀ z₀ fits touched i z = g .zones - z
+μ-loop map g start late list zones fits₀ touched₀ i₀ z₀ fits touched i z = g .zones - z
 
 loop-holds : tie.Need-loop-holds Inv-loop μ-loop
 loop-holds c =
@@ -34,23 +33,14 @@ loop-holds c =
     let a = s .args in
     (omega arith, omega arith, λ id. ap (λ (n : ℕ). allApart (a .g) 0 n (give id (pairsFrom (a .list .now)) (piecesOn (a .g) (a .map .now)))) (sub-zero (a .g .zones)), refl, s .pre .1)
 
-mul-a : tie.Need-mul-a Inv-loop μ-loop
-mul-a c =
-    let p = c .before in
-    let s = p .before .before .before in
-    omega (arith, zone-end (s .args .g .zones) (s .args .g .sector) (p .loop .z) (c .loop-test .taken), s .pre .0 .accepted .sized)
-
-add-e : tie.Need-add-e Inv-loop μ-loop
-add-e c =
-    let p = c .before in
-    let s = p .before .before .before in
-    omega (arith, zone-end (s .args .g .zones) (s .args .g .sector) (p .loop .z) (c .loop-test .taken), s .pre .0 .accepted .sized)
-
 next-part-requires : tie.Need-next-part-requires Inv-loop μ-loop
 next-part-requires c κs =
     let p = c .before in
     let s = p .before .before .before in
     (s .pre .0 .accepted .numbers, c .loop-test .taken, p .loop .inv .4)
+
+part-zone-fits-end : tie.Need-part-zone-fits-end Inv-loop μ-loop
+part-zone-fits-end c = search needs
 
 sub-zone-fits : tie.Need-sub-zone-fits Inv-loop μ-loop
 sub-zone-fits c = search needs
@@ -58,30 +48,15 @@ sub-zone-fits c = search needs
 part-zone-fits-start : tie.Need-part-zone-fits-start Inv-loop μ-loop
 part-zone-fits-start c = search needs
 
-part-zone-fits-end : tie.Need-part-zone-fits-end Inv-loop μ-loop
-part-zone-fits-end c =
-    let p = c .before .before in
-    let s = p .before .before .before in
-    omega (arith, zone-end (s .args .g .zones) (s .args .g .sector) (p .loop .z) (c .before .loop-test .taken), s .pre .0 .accepted .sized)
-
 mul-zone-fits : tie.Need-mul-zone-fits Inv-loop μ-loop
 mul-zone-fits c = search needs
 
-sub-zone-fits-2 : tie.Need-sub-zone-fits-2 Inv-loop μ-loop
-sub-zone-fits-2 c = search needs
-
-part-zone-fits-start-2 : tie.Need-part-zone-fits-start-2 Inv-loop μ-loop
-part-zone-fits-start-2 c = search needs
-
-part-zone-fits-end-2 : tie.Need-part-zone-fits-end-2 Inv-loop μ-loop
-part-zone-fits-end-2 c = search needs
-
 zone-fits-requires : tie.Need-zone-fits-requires Inv-loop μ-loop
 zone-fits-requires c κs =
-    let n = c .before .before in
+    let n = c .before in
     let p = n .before .before in
     let s = p .before .before .before in
-    zone-asks (s .pre .0) (n .before .loop-test .taken) (n .next-part .ensures .0)
+    (s .pre .0 .accepted, zone-asks (s .pre .0) (n .before .loop-test .taken) (n .next-part .ensures .0))
 
 both-requires : tie.Need-both-requires Inv-loop μ-loop
 both-requires c κs = search needs
@@ -102,7 +77,7 @@ loop-again : tie.Need-loop-again Inv-loop μ-loop
 loop-again c =
     let b = c .before in
     let f = b .before in
-    let n = f .before .before .before in
+    let n = f .before .before in
     let p = n .before .before in
     let s = p .before .before .before in
     let a = s .args in
@@ -136,16 +111,11 @@ judge-zones-spec =
     Inv-loop
     μ-loop
     loop-holds
-    mul-a
-    add-e
     next-part-requires
+    mul-zone-fits
     sub-zone-fits
     part-zone-fits-start
     part-zone-fits-end
-    mul-zone-fits
-    sub-zone-fits-2
-    part-zone-fits-start-2
-    part-zone-fits-end-2
     zone-fits-requires
     both-requires
     touches-requires

@@ -1,163 +1,103 @@
--- The three turns of the merge, each by its lemma.
-use Rattle.place.proofs.MergeTurns.{turn-free, pair-there, listed-low, turn-listed, line-there, turn-line}
-use mathlib.Core.Path.{refl, sym, _∙_}
-use Prim.Native.Nat.{_+_, _*_}
+-- The turns of the merge, each by its lemma.
+use Prim.Native.Nat.{_+_, _≤_}
+use mathlib.Core.Path.{_≡_, refl}
 use native.Mathlib.Omega.{arith}
+use lib.ListN.{length, getD}
+use Rattle.place.proofs.MergeTurns.{turn-free, lines-after, pair-there, turn-line}
+use Rattle.place.proofs.Turning.{pair-left, none-after, passes-pair, line-first, passes-line}
+use Rattle.place.proofs.ZoneJudged.{shortest-low}
 use borrow.Author.Needs.{needs}
 use Rattle.place.proofs.pass_one.Statement.{statement}
 use Rattle.place.proofs.pass_one.Tie as tie
 
-is-free-requires : tie.Need-is-free-requires
-is-free-requires c κs = search needs
-
-add-t15 : tie.Need-add-t15
-add-t15 c = search needs
+pass-pair-requires : tie.Need-pass-pair-requires
+pass-pair-requires c κs =
+    let s = c .before .before .before .before in
+    (pair-left (s .pre .0) (c .if1 .taken) (s .pre .1), shortest-low (s .args .g) (s .pre .0 .accepted .numbers), s .pre .0 .merging .at-high)
 
 returns : tie.Need-returns
 returns c =
-    let s = c .before .before .before .before in
-    turn-free (s .args .m) (s .pre .0) (sym (c .before .is-free .ensures) ∙ c .if1 .taken)
+    let h = c .before .if1 .taken in
+    let s = c .before .before .before .before .before in
+    passes-pair (s .pre .0) (pair-left (s .pre .0) h (s .pre .1)) (none-after (s .pre .0) h _) (c .pass-pair .ensures)
 
-mul-number-at : tie.Need-mul-number-at
-mul-number-at c = search needs
+next-requires : tie.Need-next-requires
+next-requires c κs = search needs
 
-add-number-at : tie.Need-add-number-at
-add-number-at c = search needs
+returns-2 : tie.Need-returns-2
+returns-2 c =
+    let d = c .before .before .before .before in
+    let s = d .before .before .before .before .before in
+    let q = s .pre .0 in
+    let e = line-first q (d .next .ensures) (d .before .if1 .left) in
+    passes-line q (d .next .ensures) (d .before .if1 .left) refl (turn-free (s .args .g .shortest) (q .merging) e (c .if2 .taken))
 
-mul-number-at-2 : tie.Need-mul-number-at-2
-mul-number-at-2 c = search needs
+cast-start : tie.Need-cast-start
+cast-start c = search needs
 
 number-at-requires : tie.Need-number-at-requires
 number-at-requires c κs = search needs
 
-number-at-requires-2 : tie.Need-number-at-requires-2
-number-at-requires-2 c κs = search needs
+-- the pair at entry j is there, and starts before the line
+listed-pair : (c : tie.Then3) → let d = c .before .before .before .before .before .before .before in let a = d .before .before .before .before .before .args in (a .j + 2 ≤ length (a .list .now)) × (c .before .number-at .result ≡ getD (a .list .now) (a .j) 0)
+listed-pair c =
+    let d = c .before .before .before .before .before .before .before in
+    let s = d .before .before .before .before .before in
+    let q = s .pre .0 in
+    let e = line-first q (d .next .ensures) (d .before .if1 .left) in
+    pair-there (s .args .g .shortest) (q .merging) e (c .before .before .before .if2 .left) (c .before .number-at .ensures .0) (omega (arith, c .before .before .struct-known3 .given .1 .1 .0)) (c .if3 .taken)
+
+pass-pair-requires-2 : tie.Need-pass-pair-requires-2
+pass-pair-requires-2 c κs =
+    let d = c .before .before .before .before .before .before .before in
+    let s = d .before .before .before .before .before in
+    let q = s .pre .0 in
+    (listed-pair c .0, shortest-low (s .args .g) (q .accepted .numbers), q .merging .at-high)
+
+returns-3 : tie.Need-returns-3
+returns-3 c =
+    let t = c .before in
+    let d = t .before .before .before .before .before .before .before in
+    let s = d .before .before .before .before .before in
+    let q = s .pre .0 in
+    let e = line-first q (d .next .ensures) (d .before .if1 .left) in
+    let p = listed-pair t in
+    passes-pair q (p .0) (lines-after (s .args .g .shortest) (q .merging) e (t .before .before .before .if2 .left) _ (omega (arith, p .1, t .if3 .taken))) (c .pass-pair2 .ensures)
 
 gap-fits-requires : tie.Need-gap-fits-requires
 gap-fits-requires c κs = search needs
 
-add-len : tie.Need-add-len
-add-len c = search needs
+cast-t14 : tie.Need-cast-t14
+cast-t14 c = search needs
 
-mul-len : tie.Need-mul-len
-mul-len c = search needs
+add-t15 : tie.Need-add-t15
+add-t15 c = search needs
 
-shared-slice-read-len : tie.Need-shared-slice-read-len
-shared-slice-read-len c =
-    let t = c .before .before .before in
-    let f = t .before .before in
-    let s = f .before .before .before .before in
-    let a = s .args in
-    let nf = sym (f .before .is-free .ensures) ∙ f .if1 .left in
-    let o = t .before .number-at .ensures in
-    let u = t .number-at2 .ensures in
-    omega (arith, pair-there (a .m) (s .pre .0) nf (o .0) (o .1) (u .0) (u .2) (c .before .before .if2 .taken))
-
-cast-len : tie.Need-cast-len
-cast-len c = omega (arith, c .shared-slice-known3 .given (c .before .before .before .before .before .before .before .before .before .args .j + 1))
-
-add-t20 : tie.Need-add-t20
-add-t20 c =
-    let t = c .before .before .before in
-    let f = t .before .before in
-    let s = f .before .before .before .before in
-    let a = s .args in
-    let nf = sym (f .before .is-free .ensures) ∙ f .if1 .left in
-    let o = t .before .number-at .ensures in
-    let u = t .number-at2 .ensures in
-    omega (arith, listed-low (a .m) (s .pre .0) nf (o .0) (o .1) (u .0) (u .2) (c .before .before .if2 .taken), c .shared-slice-known3 .given (a .j + 1))
-
-add-t21 : tie.Need-add-t21
-add-t21 c = search needs
-
-returns-2 : tie.Need-returns-2
-returns-2 c =
-    let t = c .before .before .before in
-    let f = t .before .before in
-    let s = f .before .before .before .before in
-    let a = s .args in
-    let nf = sym (f .before .is-free .ensures) ∙ f .if1 .left in
-    let o = t .before .number-at .ensures in
-    let u = t .number-at2 .ensures in
-    turn-listed (a .m) (s .pre .0) nf (o .0) (o .1) (u .0) (u .2) (c .before .before .if2 .taken) (c .before .gap-fits .ensures) refl (c .shared-slice-known3 .given (a .j + 1) .fits)
-
-gap-fits-requires-2 : tie.Need-gap-fits-requires-2
-gap-fits-requires-2 c κs = search needs
-
-mul-len-2 : tie.Need-mul-len-2
-mul-len-2 c = search needs
-
-add-len-2 : tie.Need-add-len-2
-add-len-2 c = search needs
-
-mul-len-3 : tie.Need-mul-len-3
-mul-len-3 c = search needs
-
-shared-slice-read-len-2 : tie.Need-shared-slice-read-len-2
-shared-slice-read-len-2 c =
-    let t = c .before .before .before in
-    let f = t .before .before in
-    let s = f .before .before .before .before in
-    let a = s .args in
-    let nf = sym (f .before .is-free .ensures) ∙ f .if1 .left in
-    let o = t .before .number-at .ensures in
-    let u = t .number-at2 .ensures in
-    omega (arith, s .pre .0 .sized, line-there (a .m) (s .pre .0) nf (o .0) (o .1) (u .0) (u .2) (c .before .before .if2 .left) (s .pre .1))
-
-cast-len-2 : tie.Need-cast-len-2
-cast-len-2 c = omega (arith, c .shared-slice-known4 .given (3 * c .before .before .before .before .before .before .before .before .before .args .i + 2))
-
-add-t18 : tie.Need-add-t18
-add-t18 c =
-    let t = c .before .before .before in
-    let f = t .before .before in
-    let s = f .before .before .before .before in
-    let a = s .args in
-    let nf = sym (f .before .is-free .ensures) ∙ f .if1 .left in
-    let o = t .before .number-at .ensures in
-    let u = t .number-at2 .ensures in
-    omega (arith, o .1, c .shared-slice-known4 .given (3 * a .i + 2))
-
-add-t17 : tie.Need-add-t17
-add-t17 c = search needs
-
-returns-3 : tie.Need-returns-3
-returns-3 c =
-    let t = c .before .before .before in
-    let f = t .before .before in
-    let s = f .before .before .before .before in
-    let a = s .args in
-    let nf = sym (f .before .is-free .ensures) ∙ f .if1 .left in
-    let o = t .before .number-at .ensures in
-    let u = t .number-at2 .ensures in
-    turn-line (a .m) (s .pre .0) nf (o .0) (o .1) (u .0) (u .2) (c .before .before .if2 .left) (s .pre .1) (c .before .gap-fits2 .ensures) refl (c .shared-slice-known4 .given (3 * a .i + 2) .fits)
+returns-4 : tie.Need-returns-4
+returns-4 c =
+    let o = c .before .before in
+    let n = o .before in
+    let g = n .before .struct-known3 .given in
+    let d = n .before .before .before .before .before .before in
+    let s = d .before .before .before .before .before in
+    let q = s .pre .0 in
+    let e = line-first q (d .next .ensures) (d .before .if1 .left) in
+    passes-line q (d .next .ensures) (d .before .if1 .left) (c .before .gap-fits .ensures)
+    (turn-line (s .args .g .shortest) (q .merging) e (n .before .before .if2 .left) (n .number-at .ensures .0) (omega (arith, g .1 .1 .0)) (o .if3 .left) (omega (arith, g .1 .1 .0, g .1 .1 .1 .0)))
 
 pub pass-one-spec : {M : Type 1} → statement M
 pass-one-spec =
     tie.close
     (tie.spec
-    is-free-requires
-    add-t15
+    pass-pair-requires
     returns
-    mul-number-at
-    add-number-at
-    mul-number-at-2
-    number-at-requires
-    number-at-requires-2
-    gap-fits-requires
-    add-len
-    mul-len
-    shared-slice-read-len
-    cast-len
-    add-t20
-    add-t21
+    next-requires
     returns-2
-    gap-fits-requires-2
-    mul-len-2
-    add-len-2
-    mul-len-3
-    shared-slice-read-len-2
-    cast-len-2
-    add-t18
-    add-t17
-    returns-3)
+    cast-start
+    number-at-requires
+    pass-pair-requires-2
+    returns-3
+    gap-fits-requires
+    cast-t14
+    add-t15
+    returns-4)

@@ -9,7 +9,7 @@ use borrow.Fn.Kinds.{In}
 use borrow.Fn.PlainCycle.{Measures, is, falls, and}
 use Rattle.bits.specs.Bits.{byteBits}
 use Rattle.writer.specs.Merge.{RedrawAsks}
-use Rattle.writer.proofs.Opened.{Opened}
+use Rattle.fragment.proofs.Opened.{Opened}
 use Rattle.writer.proofs.Turns.{redrawn-as, end-turn, kept-turn, put-turn}
 use Rattle.writer.proofs.Passing.{zone-fits, closes-here, opened-here}
 use Rattle.writer.proofs.Merged.{merged-passed, asks-passed, pair-left, listed-first, listed-hole, listed-within, listed-next, listed-fits, listed-gap, none-merged, last-hole-le, last-gap, stays-first, stays-hole, stays-next, stays-gap}
@@ -19,7 +19,7 @@ use Rattle.writer.proofs.+redraw.Lts-redraw as redraw-lts
 use Rattle.writer.proofs.draw_gap.Reads as draw-gap-reads
 use Rattle.writer.proofs.next_listed.Reads as next-listed-reads
 use Rattle.writer.proofs.pass_over.Reads as pass-over-reads
-use Rattle.writer.proofs.whole_fragment.Reads as whole-fragment-reads
+use Rattle.fragment.proofs.whole_fragment.Reads as whole-fragment-reads
 use Rattle.writer.proofs.write_fragment.Reads as write-fragment-reads
 use Rattle.writer.proofs.+redraw.{statement}
 use Rattle.writer.proofs.+redraw.Tie.{close}

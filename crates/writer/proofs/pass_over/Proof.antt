@@ -4,7 +4,7 @@ use Prim.Native.Nat.{_-_}
 use native.Mathlib.Omega.{arith}
 use Rattle.bits.specs.Bits.{byteBits}
 use Rattle.writer.specs.Merge.{PassedOver}
-use Rattle.writer.proofs.Opened.{Opened}
+use Rattle.fragment.proofs.Opened.{Opened}
 use Rattle.writer.proofs.Passing.{closes-here, opened-here, passed-none, passed-one, stays-here, none-stays}
 use borrow.Author.Needs.{needs}
 use Rattle.writer.proofs.pass_over.Statement.{statement}

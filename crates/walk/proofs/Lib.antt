@@ -1,0 +1,2 @@
+pub mod ZonesRead
+pub mod Remains

@@ -1,0 +1,2 @@
+pub mod SoundZone
+pub mod Remaining

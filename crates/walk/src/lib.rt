@@ -1,0 +1,95 @@
+// The one walk over the fragments of an accepted map, by value: a place among the fragments, and a step from one to the next. A zone's
+// end leads on to the next zone, so a caller's loop over a map is one loop over fragments.
+use fragment::next_after;
+use geometry::BlockBit;
+use geometry::Geometry;
+ghost use mathlib.Core.Path.{_≡_};
+ghost use mathlib.Core.Bool.{cond};
+ghost use Prim.Native.Nat.{_<_};
+ghost use Rattle.map.specs.Accepted.{AcceptedMap};
+ghost use Rattle.walk.specs.Remaining.{Stands, Passing, Starts, Advances, Settles};
+
+// Where a walk stands: at the fragment that starts at block bit `at` of a zone, where the free chain leads next to block bit `chain`, or
+// past the last zone.
+pub struct Walk {
+    pub zone: usize,
+    pub at: usize,
+    pub chain: usize,
+}
+
+// A fragment: its zone, its holder (0 for a free one), its first disc bit, its length.
+pub struct Line {
+    pub zone: usize,
+    pub holder: u32,
+    pub start: u32,
+    pub len: u32,
+}
+
+// The fragment at which a walk stood, and where it stands after it.
+pub struct Step {
+    pub line: Line,
+    pub after: Walk,
+}
+
+// A walk that stands at the first fragment of zone z, or past the last zone.
+pub fn from_zone(map: &[u8], g: Geometry, z: usize) -> Walk
+    requires { ⌜ AcceptedMap (now map) g ⌝ }
+    ensures { λ r. ⌜ Starts (now (map .entry)) g z r ⌝ }
+{
+    if g.zones <= z {
+        return Walk {
+            zone: z,
+            at: 0,
+            chain: 0,
+        };
+    }
+    let a = z * g.sector;
+    let e = a + g.sector;
+    let at = g.zone_first(z).0;
+    let chain = zone::first_free(&map[a..e]);
+    Walk { zone: z, at, chain }
+}
+
+// The fragment at which a walk stands, and the place after it.
+pub fn next(map: &[u8], g: Geometry, w: Walk) -> Step
+    requires { ⌜ AcceptedMap (now map) g × (w .zone < g .zones) × Stands (now map) g w ⌝ }
+    ensures { λ r. ⌜ Advances (now (map .entry)) g w r ⌝ }
+{
+    let z = w.zone;
+    let at = w.at;
+    let end = g.zone_end().0;
+    let a = z * g.sector;
+    let e = a + g.sector;
+    let f = fragment::whole_fragment(&map[a..e], at, end, g.idlen);
+    let line = Line {
+        zone: z,
+        holder: holder(at == w.chain, f.id),
+        start: g.disc_bit(z, BlockBit(at)).0 as u32,
+        len: f.len as u32,
+    };
+    let past = Walk {
+        zone: z,
+        at: at + f.len,
+        chain: next_after(at, w.chain, f.id as usize),
+    };
+    let after = settled(map, g, past);
+    Step { line, after }
+}
+
+// A place after a fragment as one at a fragment: at the zone's end the walk goes on to the next zone.
+fn settled(map: &[u8], g: Geometry, w: Walk) -> Walk
+    requires { ⌜ AcceptedMap (now map) g × (w .zone < g .zones) × Passing (now map) g w ⌝ }
+    ensures { λ r. ⌜ Settles (now (map .entry)) g w r ⌝ }
+{
+    if w.at < g.zone_end().0 {
+        return w;
+    }
+    from_zone(map, g, w.zone + 1)
+}
+
+// The owner's number, 0 for a free fragment.
+fn holder(free: bool, id: u32) -> u32
+    ensures { λ r. ⌜ r ≡ cond free 0 id ⌝ }
+{
+    if free { 0 } else { id }
+}
