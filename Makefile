@@ -1,16 +1,20 @@
 # make            proves map_lines and lists the fragments of a map with it (MAP=file; map A by default)
-# make test       the gate: layout, then every proof, every must-fail edit and every program
+# make test       the gate: layout, the names in the documents, then every proof, every must-fail edit and every program
 # make library    the static library for C and Rust
 # make compare    many generated maps through the library, map_lines and the second program (SEEDS=n for more),
 #                 and that the stored cases are current
 # make memcheck   the same on fewer maps, under valgrind
 # make bench      the library's time against the second program's, as ratios
-# make rust       the tests of the Rust binding, and that every name in docs/TRACE.md and docs/STATEMENTS.md is there
-# make cases      the stored cases of crate vectors, written again by the second program
+# make stack      the stack that each call needs, against what the header says
+# make rust       the tests of the Rust binding
+# make c-example  compiles README's C example and runs it on maps A and B
+# make disc       map B and an image for it in target/disc, for README's wipe (DISC=folder)
+# make cases      the stored cases of crates vectors and map_lines_cases, written again by the second program
 MAP ?= maps/a.map
 SEEDS ?= 40000
+DISC ?= target/disc
 
-.PHONY: all test library compare memcheck bench rust cases
+.PHONY: all test library compare memcheck bench stack rust c-example disc cases
 
 all:
 	rt check map_lines
@@ -18,6 +22,7 @@ all:
 
 test:
 	rt fmt --check
+	docs/names.sh
 	rt ci
 
 library:
@@ -27,10 +32,13 @@ compare: library
 	rt check map_lines
 	cd second && cargo build --release --offline -p reference -p compare
 	SEEDS=$(SEEDS) MAP_LINES=target/bin/map_lines second/target/release/compare
-	mkdir -p second/target/cases
+	mkdir -p second/target/cases second/target/texts
 	second/target/release/cases second/target/cases
 	cmp second/target/cases/stdin crates/vectors/stdin
 	cmp second/target/cases/stdout crates/vectors/stdout
+	second/target/release/texts second/target/texts
+	cmp second/target/texts/stdin crates/map_lines_cases/stdin
+	cmp second/target/texts/stdout crates/map_lines_cases/stdout
 
 memcheck: library
 	cd second && cargo build --release --offline -p compare
@@ -40,9 +48,25 @@ bench: library
 	cd second && cargo build --release --offline -p bench
 	second/target/release/bench
 
+stack: library
+	cd second && cargo build --release --offline -p stack
+	second/target/release/stack
+
 rust: library
 	cd rust && cargo test --release --offline
+
+c-example: library
+	cc -std=c11 -Wall -Wextra -Werror include/example.c target/staticlib/libshoalswift.a -o target/example
+	test "$$(target/example < maps/b.map)" = "object 5: 20480 bytes from 12288"
+	test "$$(target/example < maps/a.map)" = "refusal 10, zone 0"
+
+# Every byte of the image is known, so that one that should have stayed is noticed.
+disc:
+	mkdir -p $(DISC)
+	cp maps/b.map $(DISC)/b.map
+	yes "the old owner's file" | head -c 1572864 > $(DISC)/b.image
 
 cases:
 	cd second && cargo build --release --offline -p reference
 	second/target/release/cases crates/vectors
+	second/target/release/texts crates/map_lines_cases

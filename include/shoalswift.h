@@ -21,6 +21,21 @@
  *  7  id, object 2 or disc-end rule broken               17  too few entries for the pairs
  *  8  id or internal number outside its range
  *  9  edits: two free fragments of a zone touch          3, 5, 6, 7 and 9 tell the lowest such zone, all others zone 0.
+ *
+ * The stack that a call needs on x86-64, in bytes below its caller's frame: what `make stack` measures on maps with the most
+ * fragments and on generated ones, rounded up. `make stack` fails where a call needs more than stands here. In a program that binds
+ * its functions lazily, the first call that comes to memset needs 4096 more, for the dynamic linker.
+ *
+ *  shoalswift_check            1024
+ *  shoalswift_geometry         1024
+ *  shoalswift_list             1024
+ *  shoalswift_free             1024
+ *  shoalswift_address          1024
+ *  shoalswift_sweep_object     1024
+ *  shoalswift_sweep_free       1024
+ *  shoalswift_release         20480
+ *  shoalswift_place           20480
+ *  shoalswift_claim           20480
  */
 #ifndef SHOALSWIFT_H
 #define SHOALSWIFT_H
@@ -28,12 +43,23 @@
 #include <stddef.h>
 #include <stdint.h>
 
+/* A new major number: callers have to change. A new minor number: there is more to call. */
+#define SHOALSWIFT_VERSION_MAJOR 0
+#define SHOALSWIFT_VERSION_MINOR 1
+#define SHOALSWIFT_VERSION_PATCH 0
+#define SHOALSWIFT_VERSION "0.1.0"
+
 #ifdef __cplusplus
 extern "C" {
 #endif
 
 /* Checks a map: 1 to 7. */
 uint32_t shoalswift_check(const uint8_t *map, size_t map_len, uint32_t *zone);
+
+/* Checks a map and tells its geometry: the bytes of a sector, which are those of a zone's block; the bytes of disc behind a map bit;
+ * the zones; the ids per zone, every id being below *ids * *zones; the bytes of the disc. 1 to 7. */
+uint32_t shoalswift_geometry(const uint8_t *map, size_t map_len, uint32_t *sector, uint32_t *unit, uint32_t *zones, uint32_t *ids,
+                             uint64_t *disc_size, uint32_t *zone);
 
 /* Writes an object's pieces in object order, a pair for each fragment; *pairs is their number. Further: 8, 10, 17. */
 uint32_t shoalswift_list(const uint8_t *map, size_t map_len, uint32_t id, uint32_t *list, size_t list_len, uint64_t *pairs,

@@ -10,7 +10,7 @@
 //! state and does not unwind, so calls may run on many threads at once.
 
 use crate::declared::*;
-use crate::{Claimed, Reason, Refusal};
+use crate::{Claimed, Geometry, Reason, Refusal};
 
 /// Makes a call that answers a value and a zone: the value where its refusal
 /// number is 0, and else the refusal.
@@ -34,6 +34,17 @@ pub fn check(map: &[u8]) -> Result<(), Refusal> {
     let (bytes, length) = (map.as_ptr(), map.len());
     // SAFETY: the map is only read.
     answered(|(), zone| unsafe { shoalswift_check(bytes, length, zone) })
+}
+
+/// Checks a map and answers its geometry. Refused as `check`.
+pub fn geometry(map: &[u8]) -> Result<Geometry, Refusal> {
+    let (bytes, length) = (map.as_ptr(), map.len());
+    // SAFETY: the map is only read.
+    answered(|g: &mut Geometry, zone| unsafe {
+        let (sector, unit, zones) = (&mut g.sector, &mut g.unit, &mut g.zones);
+        let (ids, size) = (&mut g.ids, &mut g.disc_size);
+        shoalswift_geometry(bytes, length, sector, unit, zones, ids, size, zone)
+    })
 }
 
 /// Writes an object's pieces in object order, a pair of entries for each

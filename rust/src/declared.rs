@@ -1,8 +1,18 @@
 //! The functions of include/shoalswift.h, declared once for this package and for
-//! the programs that compare and time the library.
+//! the programs that compare, time and measure the library.
 
 extern "C" {
     pub fn shoalswift_check(map: *const u8, map_len: usize, zone: *mut u32) -> u32;
+    pub fn shoalswift_geometry(
+        map: *const u8,
+        map_len: usize,
+        sector: *mut u32,
+        unit: *mut u32,
+        zones: *mut u32,
+        ids: *mut u32,
+        disc_size: *mut u64,
+        zone: *mut u32,
+    ) -> u32;
     pub fn shoalswift_list(
         map: *const u8,
         map_len: usize,

@@ -25,8 +25,25 @@ mod calls;
 mod declared;
 mod refusal;
 
-pub use calls::{address, check, claim, free, list, place, release, sweep_free, sweep_object};
+pub use calls::{
+    address, check, claim, free, geometry, list, place, release, sweep_free, sweep_object,
+};
 pub use refusal::{Reason, Refusal};
+
+/// What the disc record of an accepted map fixes.
+#[derive(Clone, Copy, Debug, Default, PartialEq, Eq)]
+pub struct Geometry {
+    /// The bytes of a sector, and of a zone's block of the map.
+    pub sector: u32,
+    /// The bytes of disc behind one map bit.
+    pub unit: u32,
+    /// How many zones the disc has.
+    pub zones: u32,
+    /// The ids per zone: every id lies below `ids * zones`.
+    pub ids: u32,
+    /// The bytes of the disc.
+    pub disc_size: u64,
+}
 
 /// What a claim gave: a new object of one piece.
 #[derive(Clone, Copy, Debug, Default, PartialEq, Eq)]

@@ -4,8 +4,9 @@ use std::error::Error;
 use std::fmt;
 
 /// Why a call was refused. The value of each case is its number in the table
-/// of refusals.
+/// of refusals. A later version may have more, for calls that are not there yet.
 #[derive(Clone, Copy, Debug, PartialEq, Eq, Hash)]
+#[non_exhaustive]
 #[repr(u32)]
 pub enum Reason {
     /// The map has the wrong number of bytes.

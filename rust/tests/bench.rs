@@ -4,7 +4,8 @@
 use std::fs;
 
 use shoalswift::{
-    address, check, claim, free, list, place, release, sweep_free, sweep_object, Claimed, Refusal,
+    address, check, claim, free, geometry, list, place, release, sweep_free, sweep_object, Claimed,
+    Geometry, Refusal,
 };
 
 fn map_a() -> Vec<u8> {
@@ -96,6 +97,19 @@ fn both_maps_are_accepted_and_read() {
     assert_eq!(free_spans(&a, 8), Ok(vec![12, 1524]));
     assert_eq!(listed(&b, 5, 8), Ok(vec![12, 20]));
     assert_eq!(free_spans(&b, 8), Ok(vec![32, 1504]));
+}
+
+#[test]
+fn both_maps_have_the_geometry_of_their_record() {
+    let record = Geometry {
+        sector: 256,
+        unit: 1_024,
+        zones: 1,
+        ids: 168,
+        disc_size: 1_572_864,
+    };
+    assert_eq!(told(geometry(&map_a())), Ok(record));
+    assert_eq!(told(geometry(&map_b())), Ok(record));
 }
 
 #[test]
@@ -191,13 +205,17 @@ fn maps_that_break_a_rule() {
         let mut map = map_a();
         map[byte] = value;
         assert_eq!(told(check(&map)), Err((3, 0)));
-        assert_eq!(told(check(&mend_check(map))), Err((number, 0)));
+        assert_eq!(told(geometry(&map)), Err((3, 0)));
+        let map = mend_check(map);
+        assert_eq!(told(check(&map)), Err((number, 0)));
+        assert_eq!(told(geometry(&map)), Err((number, 0)));
     }
-    let mut map = map_a();
-    map[4] = 7;
-    assert_eq!(told(check(&map)), Err((2, 0)));
-    assert_eq!(told(check(&map_a()[..255])), Err((1, 0)));
-    assert_eq!(told(check(&[])), Err((1, 0)));
+    let mut outside = map_a();
+    outside[4] = 7;
+    for (map, number) in [(&outside[..], 2), (&map_a()[..255], 1), (&[], 1)] {
+        assert_eq!(told(check(map)), Err((number, 0)));
+        assert_eq!(told(geometry(map)), Err((number, 0)));
+    }
 }
 
 #[test]

@@ -3,7 +3,8 @@
 //! swept and released, and every other must stay as it was.
 
 use shoalswift::{
-    address, check, claim, free, list, place, release, sweep_free, sweep_object, Reason,
+    address, check, claim, free, geometry, list, place, release, sweep_free, sweep_object,
+    Geometry, Reason,
 };
 
 /// The judged fields of a disc record.
@@ -71,6 +72,16 @@ impl Shape {
 
     fn ids_per_zone(&self) -> u32 {
         self.zone_bits() as u32 / (self.idlen as u32 + 1)
+    }
+
+    fn geometry(&self) -> Geometry {
+        Geometry {
+            sector: self.sector() as u32,
+            unit: self.bytes_per_map_bit() as u32,
+            zones: self.nzones as u32,
+            ids: self.ids_per_zone(),
+            disc_size: self.disc_size as u64,
+        }
     }
 
     /// The first allocation bit of a zone, in its block.
@@ -237,6 +248,7 @@ impl Disc {
     fn new(shape: Shape) -> Disc {
         let map = fresh_map(&shape);
         assert_eq!(check(&map), Ok(()));
+        assert_eq!(geometry(&map), Ok(shape.geometry()));
         let mut disc = Disc {
             shape,
             map,
@@ -441,6 +453,7 @@ fn a_damaged_zone_is_named() {
     disc.map[3 * 512 + 300] ^= 4;
     let refusal = check(&disc.map).unwrap_err();
     assert_eq!((refusal.reason, refusal.zone), (Reason::ZoneCheck, 3));
+    assert_eq!(geometry(&disc.map), Err(refusal));
     let before = disc.image.clone();
     let answer = sweep_object(&disc.map, &mut disc.image, 0, 0xE5, 7);
     assert_eq!(answer, Err(refusal));

@@ -10,12 +10,12 @@ use Rattle.map.specs.Checked.{checked}
 use Rattle.map.specs.declared.Checked.the-variants as check
 use Rattle.listing.specs.Listed.{objectFound, freeFound, listAnswer, listAfter}
 use Rattle.listing.specs.declared.Listed.the-variants as listed
-use Rattle.reach.specs.Address.{addressFound, addressAnswer}
-use Rattle.reach.specs.declared.Reached.the-variants as reached
-use Rattle.reach.specs.Sweep.{objectSweep, freeSweep, sweepAnswer, imageAfter}
-use Rattle.reach.specs.declared.Swept.the-variants as swept
-use Rattle.calls.specs.Judge.{release, place, claim}
-use Rattle.runs.specs.Steps.{outcome, step}
+use Rattle.address.specs.Address.{addressFound, addressAnswer}
+use Rattle.address.specs.declared.Reached.the-variants as reached
+use Rattle.sweep.specs.Sweep.{objectSweep, freeSweep, sweepAnswer, imageAfter}
+use Rattle.sweep.specs.declared.Swept.the-variants as swept
+use Rattle.edits.specs.Judge.{release, place, claim}
+use Rattle.edits.specs.Steps.{outcome, step}
 use Rattle.release.specs.Released.{pairsTaken}
 use Rattle.place.specs.Placed as placed
 use Rattle.place.specs.declared.Placed.the-variants as given

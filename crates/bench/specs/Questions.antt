@@ -7,13 +7,15 @@ use lib.ListN.{length}
 use Rattle.geometry.specs.declared.Geometry.{Geometry}
 use Rattle.geometry.specs.Answers.{recordOf, recordNumbers, startOf, startNumbers}
 use Rattle.checks.specs.Cross.{changes}
+use Rattle.model.specs.Answer.{Answer}
+use Rattle.model.specs.Chain.{Pair}
 use Rattle.map.specs.Checked.{checked, checkNumbers}
-use Rattle.listing.specs.Listed.{PairsFound, objectFound, freeFound, listAnswer, listAfter, listNumbers}
-use Rattle.reach.specs.Address.{addressFound, addressAnswer, addressNumbers}
-use Rattle.reach.specs.Sweep.{ClassFound, objectSweep, freeSweep, sweepAnswer, sweepNumbers, imageAfter}
-use Rattle.calls.specs.Judge.{Call, need}
-use Rattle.calls.specs.Judge as call
-use Rattle.runs.specs.Steps.{outcome, step}
+use Rattle.listing.specs.Listed.{objectFound, freeFound, listAnswer, listAfter, listNumbers}
+use Rattle.address.specs.Address.{addressFound, addressAnswer, addressNumbers}
+use Rattle.sweep.specs.Sweep.{Class, objectSweep, freeSweep, sweepAnswer, sweepNumbers, imageAfter}
+use Rattle.edits.specs.Judge.{Call, need}
+use Rattle.edits.specs.Judge as call
+use Rattle.edits.specs.Steps.{outcome, step}
 use Rattle.release.specs.Released.{pairsTaken}
 use Rattle.place.specs.Placed.{placeNumbers}
 use Rattle.place.specs.Placed as placed
@@ -52,11 +54,11 @@ abbrev pub five : ℕ × ℕ × ℕ × ℕ × ℕ → List ℕ
 five n = n .0 ∷ n .1 ∷ n .2 ∷ n .3 ∷ n .4 ∷ []
 
 -- refusal, zone and pairs, and the lent list afterwards
-abbrev pub listed : List ℕ → PairsFound → List ℕ
+abbrev pub listed : List ℕ → Answer (List Pair) → List ℕ
 listed old found = three (listNumbers (listAnswer found)) ++ listAfter old found
 
 -- refusal, zone and count of a stretch of n bytes
-abbrev pub sweepCount : ℕ → ℕ → ClassFound → List ℕ
+abbrev pub sweepCount : ℕ → ℕ → Answer Class → List ℕ
 sweepCount first n found = three (sweepNumbers (sweepAnswer first n found))
 
 abbrev pub answer : Question → List ℕ
@@ -73,7 +75,7 @@ answer (release m id old) = listed old (pairsTaken (outcome m (call.release id (
 answer (place m id l) = two (placeNumbers (placed.placeAnswer (outcome m (call.place id l))))
 answer (claim m size) = five (claimNumbers (claimed.claimAnswer (outcome m (call.claim size))))
 answer (after m c) = step m c
-answer (start g id) = three (startNumbers (startOf g id))
+answer (start g id) = three (startNumbers (startOf g 1 id))
 answer (sizes g) = g .bits ∷ g .shortest ∷ g .ids ∷ g .size ∷ []
 answer (bitsFor g size) = need g size ∷ []
 answer (change touched) = changes touched

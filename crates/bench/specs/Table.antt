@@ -3,9 +3,9 @@
 use mathlib.Core.Bool.{true, false}
 use mathlib.Core.List.{List, [], _∷_}
 use Prim.Native.Nat.{ℕ}
-use Rattle.geometry.specs.Record.{geometryFrom, geometryOf}
+use Rattle.geometry.specs.Record.{geometryFrom, geometryOf, floppyDisc, eightZones}
 use Rattle.checks.specs.Maps.{withBytes, mapA, mapB}
-use Rattle.calls.specs.Judge as call
+use Rattle.edits.specs.Judge as call
 use Rattle.bench.specs.Questions.{Question, record-read, check, list, free, address, sweepObject, sweepFree, counted, countedFree, release, place, claim, after, start, sizes, bitsFor, change, answer}
 
 pub record Row : Type 0 where
@@ -72,13 +72,13 @@ table =
     ∷ row (list mapA 168 lent) (8 ∷ 0 ∷ 0 ∷ 9 ∷ 9 ∷ 9 ∷ 9 ∷ [])
     ∷ row (release mapA 2 lent) (8 ∷ 0 ∷ 0 ∷ 9 ∷ 9 ∷ 9 ∷ 9 ∷ [])
     -- "Id 690 with 168 ids per zone: start zone 4 (document 000)."
-    ∷ row (sizes (geometryFrom 8 11 10 8 32 12582912)) (2016 ∷ 12 ∷ 168 ∷ 12582912 ∷ [])
-    ∷ row (start (geometryFrom 8 11 10 8 32 12582912) 690) (0 ∷ 0 ∷ 4 ∷ [])
+    ∷ row (sizes (geometryFrom eightZones)) (2016 ∷ 12 ∷ 168 ∷ 12582912 ∷ [])
+    ∷ row (start (geometryFrom eightZones) 690) (0 ∷ 0 ∷ 4 ∷ [])
     -- "Zones 1,4 change by 1,1; zones 0,2,3,6,7 by 1,2,3,1,1."
     ∷ row (change (false ∷ true ∷ false ∷ false ∷ true ∷ [])) (0 ∷ 1 ∷ 0 ∷ 0 ∷ 1 ∷ [])
     ∷ row (change (true ∷ false ∷ true ∷ true ∷ false ∷ false ∷ true ∷ true ∷ [])) (1 ∷ 0 ∷ 2 ∷ 3 ∷ 0 ∷ 0 ∷ 1 ∷ 1 ∷ [])
     -- "log2secsize 10, idlen 15, log2bpmb 7, one zone, zone_spare 1312: Z 6880, m 16, P 430, 819,200 bytes."
-    ∷ row (sizes (geometryFrom 10 15 7 1 1312 819200)) (6880 ∷ 16 ∷ 430 ∷ 819200 ∷ [])
+    ∷ row (sizes (geometryFrom (floppyDisc 15))) (6880 ∷ 16 ∷ 430 ∷ 819200 ∷ [])
     -- Our own rows. B is A with 5 placed, C is A with 4 placed.
     ∷ row (after mapA (call.place 5 (12 ∷ 20 ∷ []))) mapB
     ∷ row (after mapA (call.place 4 (24 ∷ 12 ∷ []))) mapC
@@ -110,7 +110,7 @@ table =
     -- Bytes of the class are counted that held the fill before, too: two of these four are object 5's, and one of them changes.
     ∷ row (sweepObject mapB 5 12286 7 (1 ∷ 1 ∷ 7 ∷ 1 ∷ [])) (0 ∷ 0 ∷ 2 ∷ 1 ∷ 1 ∷ 7 ∷ 7 ∷ [])
     -- Where k is 8, m is rounded up to clusters and P's divisor is not; sizes are rounded up to clusters of 1,024 bytes.
-    ∷ row (sizes (geometryFrom 10 14 7 1 1312 819200)) (6880 ∷ 16 ∷ 458 ∷ 819200 ∷ [])
-    ∷ row (bitsFor (geometryFrom 10 14 7 1 1312 819200) 2048) (16 ∷ [])
-    ∷ row (bitsFor (geometryFrom 10 14 7 1 1312 819200) 2049) (24 ∷ [])
+    ∷ row (sizes (geometryFrom (floppyDisc 14))) (6880 ∷ 16 ∷ 458 ∷ 819200 ∷ [])
+    ∷ row (bitsFor (geometryFrom (floppyDisc 14)) 2048) (16 ∷ [])
+    ∷ row (bitsFor (geometryFrom (floppyDisc 14)) 2049) (24 ∷ [])
     ∷ []

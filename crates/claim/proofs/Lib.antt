@@ -1,5 +1,7 @@
 pub mod NeedBits
 pub mod Cleared
 pub mod LowestFound
-pub mod PieceGiven
 pub mod Answers
+pub mod HoleFound
+pub mod HolesFree
+pub mod PieceGiven

@@ -11,7 +11,7 @@ use borrow.Author.Tests.{eqb-true, eqb-false}
 use Rattle.bits.proofs.Tests.{by-test}
 use Rattle.geometry.specs.declared.Geometry.{Geometry}
 use Rattle.geometry.specs.Accepted.{AcceptedGeometry}
-use Rattle.calls.specs.Judge.{need}
+use Rattle.edits.specs.Judge.{need}
 
 clusters-up : (size c r : ℕ) → 0 < c → r ≡ cond (not (eqb (size % c) 0)) 1 0 → size / c + r ≡ (size + c - 1) / c
 clusters-up size c r h e =

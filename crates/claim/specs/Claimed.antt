@@ -3,25 +3,31 @@ use mathlib.Core.Path.{_≡_}
 use mathlib.Core.List.{List, [], _∷_}
 use Prim.Native.Nat.{ℕ}
 use Rattle.geometry.specs.Answers.{refusal}
-use Rattle.model.specs.Chain.{Pair}
-use Rattle.calls.specs.Edits.{Edit, takes, gives}
-use Rattle.calls.specs.Judge as call
-use Rattle.runs.specs.Steps.{Outcome, refused, done, outcome, step}
+use Rattle.model.specs.Chain.{Pair, pair}
+use Rattle.edits.specs.Edits.{Edit, editId, pairsIn}
+use Rattle.edits.specs.Judge as call
+use Rattle.edits.specs.Judge.{Choice}
+use Rattle.model.specs.Answer.{Answer, refused, answered}
+use Rattle.edits.specs.Steps.{outcome, step}
 use Rattle.claim.specs.declared.Claimed.{Claimed}
 use Rattle.claim.specs.declared.Claimed.the-variants as claimed
 
--- "answers the id and the pair"; a claim gives one pair and takes none
+-- "answers the id and the pair": a claim gives one pair
+abbrev pub firstPair : List Pair → Pair
+firstPair [] = pair 0 0
+firstPair (q ∷ qs) = q
+
 abbrev pub pieceOf : ℕ → List Pair → Claimed
-pieceOf id [] = claimed.Refused (refusal 0 0)
-pieceOf id (q ∷ qs) = claimed.Piece id (q .start) (q .len)
+pieceOf id qs = claimed.Piece id (firstPair qs .start) (firstPair qs .len)
 
-abbrev pub byEdit : Edit → Claimed
-byEdit (takes id qs) = claimed.Refused (refusal 0 0)
-byEdit (gives id qs) = pieceOf id qs
+-- what is chosen, told so
+abbrev pub choiceAnswer : Answer Choice → Claimed
+choiceAnswer (refused n z) = claimed.Refused (refusal n z)
+choiceAnswer (answered c) = pieceOf (c .id) (c .pairs)
 
-abbrev pub claimAnswer : Outcome → Claimed
+abbrev pub claimAnswer : Answer Edit → Claimed
 claimAnswer (refused n z) = claimed.Refused (refusal n z)
-claimAnswer (done e s) = byEdit e
+claimAnswer (answered e) = pieceOf (editId e) (pairsIn e)
 
 -- the answer and every byte of the map
 pub record Claims (m : List ℕ) (size : ℕ) (r : Claimed) (after : List ℕ) : Type 0 where

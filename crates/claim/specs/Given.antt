@@ -4,11 +4,12 @@ use mathlib.Core.List.{List, [], _∷_}
 use Prim.Native.Nat.{ℕ}
 use Rattle.geometry.specs.declared.Geometry.{Geometry}
 use Rattle.model.specs.Chain.{pair}
-use Rattle.calls.specs.Edits.{gives}
-use Rattle.calls.specs.Judge.{place, accepted, judge}
-use Rattle.runs.specs.Editable.{piecesOn}
-use Rattle.holes.specs.EditableMap.{EditableMap}
+use Rattle.edits.specs.Edits.{gives}
+use Rattle.model.specs.Answer.{answered}
+use Rattle.edits.specs.Judge.{place, judge}
+use Rattle.model.specs.Shown.{piecesOn}
+use Rattle.edits.specs.EditableMap.{EditableMap}
 
 pub record PieceFits (m : List ℕ) (g : Geometry) (id start len : ℕ) : Type 0 where
   pub editable : EditableMap m g
-  pub fits : judge g (piecesOn g m) (place id (start ∷ len ∷ [])) ≡ accepted (gives id (pair start len ∷ []))
+  pub fits : judge g (piecesOn g m) (place id (start ∷ len ∷ [])) ≡ answered (gives id (pair start len ∷ []))

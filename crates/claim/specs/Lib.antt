@@ -1,3 +1,4 @@
 pub mod Claimed
 pub mod Unused
 pub mod Given
+pub mod Hole

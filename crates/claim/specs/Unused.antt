@@ -1,29 +1,36 @@
--- The ids that a map holds, cleared in a list of bits that has one for each id (document 01, "Claim": "The id is the lowest
--- unused one from 3"). Assumes nothing.
-use mathlib.Core.Bool.{Bool, false}
-use mathlib.Core.List.{List, [], _∷_, _++_}
-use Prim.Native.Nat.{ℕ, zero, suc}
-use lib.ListN.{set}
+-- The unused ids of a window, `from` to `to` - 1, by a bit for each, the first for id `from` (document 01, "Claim": "The id is the lowest unused
+-- one from 3"). Assumes nothing.
+use mathlib.Core.Path.{_≡_}
+use mathlib.Core.Bool.{Bool, false, cond, _&&_}
+use mathlib.Core.List.{List}
+use mathlib.Core.Option.{none, some}
+use Prim.Native.Nat.{ℕ, _+_, _-_, _*_, _<_, _≤_}
+use lib.Dec.{ltb, leb}
+use lib.ListN.{getD, set}
+use Rattle.bits.specs.Bits.{byteBits}
 use Rattle.geometry.specs.declared.Geometry.{Geometry}
-use Rattle.model.specs.Chain.{Entry}
-use Rattle.model.specs.Rules.{zoneBlock}
-use Rattle.zone.specs.Lines.{entriesIn, holderNumber}
-use Rattle.walk.specs.declared.Line.{Line}
+use Rattle.model.specs.Chain.{Pair}
+use Rattle.model.specs.Pieces.{Piece}
+use Rattle.edits.specs.Judge.{isEmpty, lowest}
 
--- the bits after those of these numbers were cleared
-abbrev pub cleared : List ℕ → List Bool → List Bool
-cleared [] bits = bits
-cleared (h ∷ hs) bits = cleared hs (set bits h false)
+-- the bits after the one of this id was cleared, if it has one
+abbrev pub clearedBit : ℕ → ℕ → ℕ → List Bool → List Bool
+clearedBit from to id bits = cond (leb from id && ltb id to) (set bits (id - from) false) bits
 
--- the holders' numbers, 0 for a free fragment: of lines, of a zone's entries, and of n zones from z on
-abbrev pub holdersIn : List Line → List ℕ
-holdersIn [] = []
-holdersIn (l ∷ ls) = l .holder ∷ holdersIn ls
+-- the bits of `new` are those of `old`, but 0 for every id that holds something
+abbrev pub ClearedIn : (ℕ → List Pair) → ℕ → ℕ → List ℕ → List ℕ → Type 0
+ClearedIn held from to old new =
+    (id : ℕ) → from ≤ id → id < to → getD (byteBits new) (id - from) false ≡ getD (byteBits old) (id - from) false && isEmpty (held id)
 
-abbrev pub holdersOf : List Entry → List ℕ
-holdersOf [] = []
-holdersOf (e ∷ es) = holderNumber (e .holder) ∷ holdersOf es
+-- a window of a disc's ids, with at most 131,072 bits
+pub record Window (g : Geometry) (from to : ℕ) : Type 0 where
+  pub low : 1 ≤ from
+  pub in-order : from ≤ to
+  pub high : to ≤ g .ids * g .zones
+  pub few : to ≤ from + 131072
 
-abbrev pub holdersFrom : Geometry → List ℕ → ℕ → ℕ → List ℕ
-holdersFrom g m z zero = []
-holdersFrom g m z (suc n) = holdersOf (entriesIn g z (zoneBlock g m z)) ++ holdersFrom g m (suc z) n
+-- r is the lowest unused id of the window, or its end where there is none
+pub record UnusedIn (l : List Piece) (from to r : ℕ) : Type 0 where
+  pub low : from ≤ r
+  pub high : r ≤ to
+  pub least : lowest l (to - from) from ≡ cond (ltb r to) (some r) none

@@ -1,28 +1,30 @@
-// Claim (document 01): given a size in bytes, gives the lowest unused id the first hole that is long enough. One pass over the map
-// looks for the hole, one clears the bits of the used ids in a local bitmap.
-use geometry::DiscBit;
+// Claim (document 01): given a size in bytes, gives the lowest unused id the first hole that is long enough. What is chosen (`choose`) is apart
+// from how it is given (`give_piece`). One pass over the map looks for the hole, and one, or a few where ids are many, for the id.
+use bits::both;
 use geometry::Geometry;
 use geometry::Refusal;
-use holes::Hole;
-use holes::Touching;
+use geometry::refuse;
 use map::Checked;
+use walk::Touching;
 ghost use mathlib.Core.Path.{_≡_};
 ghost use mathlib.Core.Bool.{cond};
 ghost use mathlib.Core.List.{[], _∷_};
 ghost use mathlib.Core.Option.{some};
-ghost use Prim.Native.Nat.{_+_, _-_, _*_, _<_, _≤_, max};
+ghost use Prim.Native.Nat.{_+_, _-_, _*_, _<_, _≤_, max, min};
 ghost use lib.Dec.{ltb};
 ghost use lib.ListN.{length};
 ghost use Rattle.bits.specs.Bits.{byteBits};
 ghost use Rattle.geometry.specs.Accepted.{AcceptedGeometry};
-ghost use Rattle.map.specs.Accepted.{AcceptedMap};
-ghost use Rattle.calls.specs.Judge.{need, lowest, place};
-ghost use Rattle.runs.specs.Steps.{step};
-ghost use Rattle.runs.specs.Editable.{piecesOn};
-ghost use Rattle.holes.specs.EditableMap.{EditableMap};
-ghost use Rattle.claim.specs.Claimed.{Claims};
+ghost use Rattle.model.specs.Shown.{piecesOn};
+ghost use Rattle.map.specs.Accepted.{ReadableFrom, AcceptedMap};
+ghost use Rattle.walk.specs.HeldBy.{heldFrom};
+ghost use Rattle.edits.specs.Judge.{need, firstHole, lowest, chosen, place};
+ghost use Rattle.edits.specs.Steps.{step};
+ghost use Rattle.edits.specs.EditableMap.{EditableMap};
+ghost use Rattle.claim.specs.Claimed.{choiceAnswer, Claims};
 ghost use Rattle.claim.specs.Given.{PieceFits};
-ghost use Rattle.claim.specs.Unused.{cleared, holdersFrom};
+ghost use Rattle.claim.specs.Hole.{holeOf};
+ghost use Rattle.claim.specs.Unused.{clearedBit, ClearedIn, Window, UnusedIn};
 
 // The id and the piece that it was given, or a refusal.
 pub enum Claimed {
@@ -46,35 +48,43 @@ fn claim_checked(map: &mut [u8], g: Geometry, size: u64) -> Claimed
     requires { ⌜ AcceptedMap (now map) g ⌝ }
     ensures { λ r. ⌜ Claims (now (map .entry)) size r (now (map .exit)) ⌝ }
 {
-    match holes::first_touching(map, g) {
+    match walk::first_touching(map, g) {
         Touching::Zone(zone) => Claimed::Refused(Refusal { number: 9, zone }),
         Touching::None => {
             if size == 0 {
-                return Claimed::Refused(Refusal {
-                    number: 12,
-                    zone: 0,
-                });
+                return Claimed::Refused(refuse(12));
             }
             claim_room(map, g, size)
         }
     }
 }
 
-// Room for some bytes: the first hole that is long enough, or 15. An unused id is always there, so nothing is refused with 14.
+// Gives what is chosen for a claim of some bytes.
 fn claim_room(map: &mut [u8], g: Geometry, size: u64) -> Claimed
     requires { ⌜ EditableMap (now map) g × (0 < size) ⌝ }
     ensures { λ r. ⌜ Claims (now (map .entry)) size r (now (map .exit)) ⌝ }
 {
+    match choose(map, g, size) {
+        Claimed::Refused(r) => Claimed::Refused(r),
+        Claimed::Piece { id, start, len } => {
+            give_piece(map, g, id, start, len);
+            Claimed::Piece { id, start, len }
+        }
+    }
+}
+
+// What a claim chooses: the lowest unused id, with what is taken of the first hole that is long enough, or 15. An unused id is always
+// there, so nothing is refused with 14.
+fn choose(map: &[u8], g: Geometry, size: u64) -> Claimed
+    requires { ⌜ EditableMap (now map) g ⌝ }
+    ensures { λ r. ⌜ r ≡ choiceAnswer (chosen g (piecesOn g (now (map .entry))) size) ⌝ }
+{
     let bits = need_of(g, size);
-    match holes::first_hole(map, g, bits) {
-        Hole::None => Claimed::Refused(Refusal {
-            number: 15,
-            zone: 0,
-        }),
+    match first_hole(map, g, bits) {
+        Hole::None => Claimed::Refused(refuse(15)),
         Hole::At(start, hole) => {
             let id = lowest_unused(map, g);
             let len = taken_of(g, bits, hole);
-            give_piece(map, g, id, start, len);
             Claimed::Piece { id, start, len }
         }
     }
@@ -97,6 +107,36 @@ fn larger(a: usize, b: usize) -> usize
     if a < b { b } else { a }
 }
 
+fn smaller(a: usize, b: usize) -> usize
+    ensures { λ r. ⌜ r ≡ min a b ⌝ }
+{
+    if a < b { a } else { b }
+}
+
+// A hole by its first disc bit and its length, or none.
+enum Hole {
+    None,
+    At(u32, u32),
+}
+
+// The first hole of at least `need` bits, zones from 0, holes ascending.
+fn first_hole(map: &[u8], g: Geometry, need: usize) -> Hole
+    requires { ⌜ AcceptedMap (now map) g ⌝ }
+    ensures { λ r. ⌜ r ≡ holeOf (firstHole need (heldFrom g 0 (now (map .entry)) 0 (g .zones))) ⌝ }
+{
+    let zones = g.zones;
+    let mut w = walk::from_zone(map, g, 0);
+    while w.zone < zones {
+        let s = walk::next(map, g, w);
+        let line = s.line;
+        if both(line.holder == 0, need <= line.len as usize) {
+            return Hole::At(line.start, line.len);
+        }
+        w = s.after;
+    }
+    Hole::None
+}
+
 // What is taken of a hole of `hole` bits: need, or the whole hole where 1 to m - 1 bits would remain.
 fn taken_of(g: Geometry, need: usize, hole: u32) -> u32
     requires { ⌜ AcceptedGeometry g × (need ≤ hole) ⌝ }
@@ -108,39 +148,67 @@ fn taken_of(g: Geometry, need: usize, hole: u32) -> u32
     need as u32
 }
 
-// The lowest unused id from 3 on. There is a bit for every id, 1 while the id is not seen in the map.
+// How many ids have their bits at a time: all ids of a disc at once would need more stack than a call may take.
+const WINDOW: usize = 131072;
+
+// The lowest unused id from 3 on, one window of ids after the other: only a disc with more ids than a window can need a second.
 fn lowest_unused(map: &[u8], g: Geometry) -> u32
     requires { ⌜ EditableMap (now map) g ⌝ }
     ensures { λ r. ⌜ lowest (piecesOn g (now (map .entry))) (g .ids * g .zones - 3) 3 ≡ some r ⌝ }
 {
-    let mut unused = [255u8; 65536];
-    clear_used(map, g, &mut unused);
-    let past = bits::zero_run(&unused, 3, g.ids * g.zones);
-    (3 + past) as u32
+    let ids = g.ids * g.zones;
+    let mut from = 3;
+    loop {
+        let to = smaller(from + WINDOW, ids);
+        let id = unused_in(map, g, from, to);
+        if id < to {
+            return id as u32;
+        }
+        from = to;
+    }
 }
 
-// Clears the bit of every id that the map holds. Bit 0 goes with the free fragments: it stands for no id.
-fn clear_used(map: &[u8], g: Geometry, unused: &mut [u8])
-    requires { ⌜ AcceptedMap (now map) g × (g .ids * g .zones ≤ length (now unused) * 8) ⌝ }
-    ensures { λ _. ⌜ byteBits (now (unused .exit)) ≡ cleared (holdersFrom g (now (map .entry)) 0 (g .zones)) (byteBits (now (unused .entry))) ⌝ }
+// The lowest unused id from `from` on and below `to`, or `to` where there is none. There is a bit for every id of the window, 1 while
+// the id is not seen in the map.
+fn unused_in(map: &[u8], g: Geometry, from: usize, to: usize) -> usize
+    requires { ⌜ AcceptedMap (now map) g × Window g from to ⌝ }
+    ensures { λ r. ⌜ UnusedIn (piecesOn g (now (map .entry))) from to r ⌝ }
+{
+    let mut unused = [255u8; 16384];
+    clear_used(map, g, from, to, &mut unused);
+    from + bits::zero_run(&unused, 0, to - from)
+}
+
+// Clears the bit of every id of the window that the map holds.
+fn clear_used(map: &[u8], g: Geometry, from: usize, to: usize, unused: &mut [u8])
+    requires { ⌜ ReadableFrom (now map) g 0 × (to ≤ from + length (now unused) * 8) ⌝ }
+    ensures { λ _. ⌜ ClearedIn (λ id. heldFrom g id (now (map .entry)) 0 (g .zones)) from to (now (unused .entry)) (now (unused .exit)) ⌝ }
 {
     let zones = g.zones;
     let mut w = walk::from_zone(map, g, 0);
     while w.zone < zones {
         let s = walk::next(map, g, w);
-        bits::clear_bit(unused, s.line.holder as usize);
+        clear_id(unused, from, to, s.line.holder as usize);
         w = s.after;
     }
 }
 
-// Gives a piece to an id, as a place of that pair does. It touches one zone, so that zone's cross check stays.
+// Clears an id's bit, if the id is in the window.
+fn clear_id(unused: &mut [u8], from: usize, to: usize, id: usize)
+    requires { ⌜ to ≤ from + length (now unused) * 8 ⌝ }
+    ensures { λ _. ⌜ byteBits (now (unused .exit)) ≡ clearedBit from to id (byteBits (now (unused .entry))) ⌝ }
+{
+    if both(from <= id, id < to) {
+        bits::clear_bit(unused, id - from);
+    }
+}
+
+// Gives a piece to an id, as a place of that pair does.
 fn give_piece(map: &mut [u8], g: Geometry, id: u32, start: u32, len: u32)
     requires { ⌜ PieceFits (now map) g id start len ⌝ }
     ensures { λ _. ⌜ now (map .exit) ≡ step (now (map .entry)) (place id (start ∷ len ∷ [])) ⌝ }
 {
-    let z = g.zone_of(DiscBit(start as usize));
-    let a = z * g.sector;
-    let e = a + g.sector;
     let pair = [start, len];
-    writer::edit_zone(&mut map[a..e], z, g, 0, &pair, id, 0);
+    let mut buffer = [0u32; 4096];
+    writer::edit_map(map, g, 0, &pair, id, &mut buffer);
 }

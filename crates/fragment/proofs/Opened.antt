@@ -33,8 +33,8 @@ pub record Opened (idlen at end chain : ℕ) (B : List Bool) (id len : ℕ) : Ty
   pub rest : List Fragment
   pub whole : fragmentsIn idlen (slice at end B) ≡ some (fragmentOf id len ∷ rest)
   pub cuts : fragmentsIn idlen (slice (at + len) end B) ≡ some rest
-  pub entries : List Entry
-  pub chained : follow at chain (fragmentOf id len ∷ rest) ≡ some entries
+  pub answered : List Entry
+  pub chained : follow at chain (fragmentOf id len ∷ rest) ≡ some answered
 
 -- the front of a slice
 front : (B : List Bool) (at end n : ℕ) → at + n ≤ end → take n (slice at end B) ≡ slice at (at + n) B
@@ -90,7 +90,7 @@ module _ (idlen at end chain : ℕ) (B : List Bool) (pos : 0 < idlen) (he : end 
           rest = fs;
           whole = k;
           cuts = x;
-          entries = es;
+          answered = es;
           chained = e;
         },
       )
@@ -133,7 +133,7 @@ some-before e (some es) d = refl
 module _ {idlen at end chain : ℕ} {B : List Bool} {id len : ℕ} (o : Opened idlen at end chain B id len) where
   pub can-read : (e : Entry) (r : Option (List Entry)) → readFrom idlen at end chain B ≡ before e r → CanRead r
   can-read e r a =
-      let k : readFrom idlen at end chain B ≡ some (o .entries) = simp (o .whole) (o .chained) in
+      let k : readFrom idlen at end chain B ≡ some (o .answered) = simp (o .whole) (o .chained) in
       read-rest e r (subst (λ (x : Option (List Entry)). CanRead x) (sym k ∙ a) tt)
 
   pub read-on : CanRead (readFrom idlen (at + len) end (nextAfter at chain id) B)

@@ -8,56 +8,30 @@ use native.Mathlib.Omega.{arith}
 use lib.Dec.{ltb}
 use lib.ListN.{length}
 use borrow.Author.Tests.{ltb-true, ltb-false, lt-ltb, le-ltb}
+use Rattle.geometry.specs.declared.DiscRecord.{DiscRecord}
 use Rattle.geometry.specs.declared.Geometry.{Geometry}
 use Rattle.geometry.specs.declared.Refusal.{Refusal}
 use Rattle.geometry.specs.declared.RecordRead.the-variants as read
-use Rattle.geometry.specs.Record.{logSector, idLength, logUnit, zoneCount, zoneSpare, discSize, discRecord, geometryFrom, geometryIn, geometryOf}
+use Rattle.geometry.specs.Record.{discRecord, recordIn, geometryFrom, geometryOf}
 use Rattle.geometry.specs.Ranges.{fieldsFit, geometryFits, recordFits}
 use Rattle.geometry.specs.Accepted.{AcceptedGeometry}
 use Rattle.geometry.specs.Answers.{refusal, byFit, byLength, recordOf}
 use Rattle.geometry.proofs.Numbers.{test-gives-accepted}
 
--- the numbers that were taken from a record's bytes
-pub record Taken (r : List ℕ) (logS idlen logB zones spare size : ℕ) : Type 0 where
-  pub sector-is : logS ≡ logSector r
-  pub idlen-is : idlen ≡ idLength r
-  pub unit-is : logB ≡ logUnit r
-  pub zones-is : zones ≡ zoneCount r
-  pub spare-is : spare ≡ zoneSpare r
-  pub size-is : size ≡ discSize r
-
-module _ {r : List ℕ} {logS idlen logB zones spare size : ℕ} (t : Taken r logS idlen logB zones spare size) where
-  same-fields : fieldsFit logS idlen logB zones spare ≡ fieldsFit (logSector r) (idLength r) (logUnit r) (zoneCount r) (zoneSpare r)
-  same-fields i = fieldsFit (t .sector-is i) (t .idlen-is i) (t .unit-is i) (t .zones-is i) (t .spare-is i)
-
-  same-geometry : geometryFrom logS idlen logB zones spare size ≡ geometryIn r
-  same-geometry i = geometryFrom (t .sector-is i) (t .idlen-is i) (t .unit-is i) (t .zones-is i) (t .spare-is i) (t .size-is i)
-
-  pub geometry-is : {g : Geometry} → g ≡ geometryFrom logS idlen logB zones spare size → g ≡ geometryIn r
-  geometry-is e = e ∙ same-geometry
-
-  -- the test of the fields, and that of the geometry after it, are the test of the record
-  module _ {fields : Bool} (f : fields ≡ fieldsFit logS idlen logB zones spare) where
-    first-test : (b : Bool) → fields ≡ b → recordFits r ≡ b && geometryFits (geometryIn r)
-    first-test b e = ap (λ (x : Bool). x && geometryFits (geometryIn r)) (sym same-fields ∙ sym f ∙ e)
-
-    pub fields-decide : fields ≡ false → recordFits r ≡ false
-    fields-decide e = first-test false e
-
-    pub geometry-decides : fields ≡ true → {g : Geometry} → g ≡ geometryFrom logS idlen logB zones spare size
-        → {together b : Bool} → together ≡ geometryFits g → together ≡ b → recordFits r ≡ b
-    geometry-decides e h t q = first-test true e ∙ ap geometryFits (sym (geometry-is h)) ∙ sym t ∙ q
-
 -- from the tests to the answer
-module _ (m : List ℕ) where
-  pub read-short : length m < 64 → read.Refused (refusal 1 0) ≡ recordOf m
-  read-short h = rw (lt-ltb (length m) 64 h)
+pub read-short : (m : List ℕ) → length m < 64 → read.Refused (refusal 1 0) ≡ recordOf m
+read-short m h = rw (lt-ltb (length m) 64 h)
 
-  pub read-outside : 64 ≤ length m → recordFits (discRecord m) ≡ false → read.Refused (refusal 2 0) ≡ recordOf m
-  read-outside h t = rw (le-ltb (length m) 64 h, t)
+-- the record that was read is the map's, so its two tests are the map's
+module _ (m : List ℕ) (long : 64 ≤ length m) {r : DiscRecord} (e : r ≡ recordIn (discRecord m)) where
+  read-long : byFit (fieldsFit r && geometryFits (geometryFrom r)) (geometryFrom r) ≡ recordOf m
+  read-long = ap (λ (x : DiscRecord). byFit (fieldsFit x && geometryFits (geometryFrom x)) (geometryFrom x)) e ∙ rw (le-ltb (length m) 64 long)
 
-  pub read-accepted : 64 ≤ length m → recordFits (discRecord m) ≡ true → (g : Geometry) → g ≡ geometryOf m → read.Accepted g ≡ recordOf m
-  read-accepted h t g e = rw (le-ltb (length m) 64 h, t) (ap read.Accepted e)
+  pub read-outside : fieldsFit r ≡ false → read.Refused (refusal 2 0) ≡ recordOf m
+  read-outside t = rw t at read-long
+
+  pub read-geometry : fieldsFit r ≡ true → {g : Geometry} → g ≡ geometryFrom r → {b : Bool} → b ≡ geometryFits g → byFit b g ≡ recordOf m
+  read-geometry f {g} h t = ap (λ (x : Bool). byFit x g) t ∙ ap (λ (x : Geometry). byFit (geometryFits x) x) h ∙ (rw f at read-long)
 
 -- from the answer to the tests
 module _ (m : List ℕ) where

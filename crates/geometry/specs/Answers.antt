@@ -35,13 +35,14 @@ abbrev pub recordNumbers : RecordRead → ℕ × ℕ
 recordNumbers (read.Accepted g) = (0, 0)
 recordNumbers (read.Refused r) = (r .number, r .zone)
 
--- the start zone of an id from 1 to P*nzones - 1; "any other is refused with 8"
+-- "the start zone of an id from 1 to P*nzones - 1; any other is refused with 8"; and 8 of the table: "id argument outside
+-- 1 (list, start zone), 2 (address) or 3 (sweep, edits) to P*nzones-1"
 abbrev pub byName : Bool → ℕ → Start
 byName true z = start.Zone z
 byName false z = start.Refused (refusal 8 0)
 
-abbrev pub startOf : Geometry → ℕ → Start
-startOf g id = byName (idFrom 1 g id) (startZone g id)
+abbrev pub startOf : Geometry → ℕ → ℕ → Start
+startOf g low id = byName (idFrom low g id) (startZone g id)
 
 -- the paper's numbers: refusal (0: accepted), zone told, and the start zone
 abbrev pub startNumbers : Start → ℕ × ℕ × ℕ

@@ -4,7 +4,7 @@ use mathlib.Core.Bool.{true}
 use mathlib.Core.List.{List}
 use Prim.Native.Nat.{ℕ, _*_, _<_, _≤_}
 use Rattle.geometry.specs.declared.Geometry.{Geometry}
-use Rattle.geometry.specs.Record.{geometryIn, geometryFrom}
+use Rattle.geometry.specs.Record.{geometryIn, geometryFrom, floppyDisc, eightZones}
 use Rattle.geometry.specs.Ranges.{RecordRules, recordFits}
 use Rattle.geometry.specs.Accepted.{AcceptedGeometry}
 use Rattle.geometry.specs.Places.{firstBit, endBit, discBit, blockBit, zoneOf, discBits, startZone}
@@ -23,8 +23,8 @@ pub record GeometryLaws : Type 0 where
   -- an id's start zone is a zone
   pub start-in-range : (g : Geometry) (id : ℕ) → 1 ≤ id → id < g .ids * g .zones → startZone g id < g .zones
   -- document 01's last bench line: Z 6880, m 16, P 430, 819,200 bytes
-  pub floppy : let g = geometryFrom 10 15 7 1 1312 819200 in (g .bits ≡ 6880) × (g .shortest ≡ 16) × (g .ids ≡ 430) × (g .end ≡ 6400)
-  -- P's divisor is not rounded to clusters: idlen 13, 1,024-byte sectors, 128 bytes a bit, so m 16 and P = Z div 14
-  pub divisor : let g = geometryFrom 10 13 7 1 32 819200 in (g .bits ≡ 8160) × (g .shortest ≡ 16) × (g .ids ≡ 582)
+  pub floppy : let g = geometryFrom (floppyDisc 15) in (g .bits ≡ 6880) × (g .shortest ≡ 16) × (g .ids ≡ 430) × (g .end ≡ 6400)
+  -- P's divisor is not rounded to clusters: with ids of 13 bits m is 16 too, and P = Z div 14
+  pub divisor : let g = geometryFrom (floppyDisc 13) in (g .bits ≡ 6880) × (g .shortest ≡ 16) × (g .ids ≡ 491)
   -- "Id 690 with 168 ids per zone: start zone 4 (document 000)"
-  pub object-690 : let g = geometryFrom 8 11 10 8 32 12582912 in (g .ids ≡ 168) × (startNumbers (startOf g 690) ≡ (0, 0, 4))
+  pub object-690 : let g = geometryFrom eightZones in (g .ids ≡ 168) × (startNumbers (startOf g 1 690) ≡ (0, 0, 4))

@@ -5,8 +5,9 @@ use mathlib.Core.Bool.{Bool, _&&_}
 use mathlib.Core.List.{List}
 use Prim.Native.Nat.{ℕ, _+_, _-_, _*_, _%_, _^_, _<_, _≤_}
 use lib.Dec.{eqb, ltb, leb}
+use Rattle.geometry.specs.declared.DiscRecord.{DiscRecord}
 use Rattle.geometry.specs.declared.Geometry.{Geometry}
-use Rattle.geometry.specs.Record.{logSector, idLength, logUnit, zoneCount, zoneSpare, geometryIn}
+use Rattle.geometry.specs.Record.{recordIn, geometryIn}
 
 -- the two bounds that later editions of the format raise
 abbrev pub mostZones : ℕ
@@ -16,21 +17,21 @@ abbrev pub longestId : ℕ
 longestId = 15
 
 -- the fields one by one
-pub record FieldRules (logS idlen logB zones spare : ℕ) : Type 0 where
+pub record FieldRules (r : DiscRecord) : Type 0 where
   -- "log2secsize 8 to 10"
-  pub sector-low : 8 ≤ logS
-  pub sector-high : logS ≤ 10
+  pub sector-low : 8 ≤ r .logsector
+  pub sector-high : r .logsector ≤ 10
   -- "idlen from log2secsize+3 to 15"
-  pub idlen-low : logS + 3 ≤ idlen
-  pub idlen-high : idlen ≤ longestId
+  pub idlen-low : r .logsector + 3 ≤ r .idlen
+  pub idlen-high : r .idlen ≤ longestId
   -- "log2bpmb 7 to 12"
-  pub unit-low : 7 ≤ logB
-  pub unit-high : logB ≤ 12
+  pub unit-low : 7 ≤ r .logunit
+  pub unit-high : r .logunit ≤ 12
   -- "nzones 1 to 127"
-  pub zones-low : 1 ≤ zones
-  pub zones-high : zones ≤ mostZones
+  pub zones-low : 1 ≤ r .zones
+  pub zones-high : r .zones ≤ mostZones
   -- "zone_spare at least 32"
-  pub spare-low : 32 ≤ spare
+  pub spare-low : 32 ≤ r .spare
 
 -- what the fields give together
 pub record GeometryRules (g : Geometry) : Type 0 where
@@ -46,20 +47,20 @@ pub record GeometryRules (g : Geometry) : Type 0 where
   pub within-map : g .size ≤ (g .zones * g .bits - 480) * g .unit
 
 pub record RecordRules (r : List ℕ) : Type 0 where
-  pub fields : FieldRules (logSector r) (idLength r) (logUnit r) (zoneCount r) (zoneSpare r)
+  pub fields : FieldRules (recordIn r)
   pub together : GeometryRules (geometryIn r)
 
 -- the same as a test
 abbrev pub between : ℕ → ℕ → ℕ → Bool
 between a x b = leb a x && leb x b
 
-abbrev pub fieldsFit : ℕ → ℕ → ℕ → ℕ → ℕ → Bool
-fieldsFit logS idlen logB zones spare =
-    between 8 logS 10
-    && (between (logS + 3) idlen longestId
-    && (between 7 logB 12
-    && (between 1 zones mostZones
-    && leb 32 spare)))
+abbrev pub fieldsFit : DiscRecord → Bool
+fieldsFit r =
+    between 8 (r .logsector) 10
+    && (between (r .logsector + 3) (r .idlen) longestId
+    && (between 7 (r .logunit) 12
+    && (between 1 (r .zones) mostZones
+    && leb 32 (r .spare))))
 
 abbrev pub geometryFits : Geometry → Bool
 geometryFits g =
@@ -71,4 +72,4 @@ geometryFits g =
     && leb (g .size) ((g .zones * g .bits - 480) * g .unit)))))
 
 abbrev pub recordFits : List ℕ → Bool
-recordFits r = fieldsFit (logSector r) (idLength r) (logUnit r) (zoneCount r) (zoneSpare r) && geometryFits (geometryIn r)
+recordFits r = fieldsFit (recordIn r) && geometryFits (geometryIn r)

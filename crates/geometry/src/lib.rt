@@ -6,12 +6,22 @@ use bits::wide;
 ghost use mathlib.Core.Path.{_≡_};
 ghost use Prim.Native.Nat.{_+_, _-_, _*_, _/_, _%_, _^_, _<_, _≤_};
 ghost use lib.ListN.{length};
-ghost use Rattle.geometry.specs.Record.{clusterOf, geometryFrom, zoneSpare, discSize};
+ghost use Rattle.geometry.specs.Record.{clusterOf, twoBytes, recordIn, geometryFrom};
 ghost use Rattle.geometry.specs.Ranges.{FieldRules, between, fieldsFit, geometryFits};
 ghost use Rattle.geometry.specs.Accepted.{SmallNumbers, AcceptedGeometry};
 ghost use Rattle.geometry.specs.Places.{firstBit, endBit, discBit, zoneOf, zoneFrom, discBits, idFrom};
-ghost use Rattle.geometry.specs.Answers.{recordOf, startOf};
+ghost use Rattle.geometry.specs.Answers.{refusal, recordOf, startOf};
 ghost use Rattle.geometry.specs.Laws.{GeometryLaws};
+
+// The fields of a disc record that are judged, by document 01's names.
+pub struct DiscRecord {
+    pub logsector: usize, // log2secsize
+    pub idlen: usize,
+    pub logunit: usize, // log2bpmb
+    pub zones: usize, // nzones
+    pub spare: usize, // zone_spare
+    pub size: usize, // disc_size
+}
 
 // What a disc record fixes, by document 01's letters.
 pub struct Geometry {
@@ -61,38 +71,37 @@ pub fn read_record(map: &[u8]) -> RecordRead
     ensures { λ r. ⌜ r ≡ recordOf (now (map .entry)) ⌝ }
 {
     if map.len() < 64 {
-        return RecordRead::Refused(Refusal { number: 1, zone: 0 });
+        return RecordRead::Refused(refuse(1));
     }
-    let r = &map[4..64];
-    let log2secsize = wide(r[0]);
-    let idlen = wide(r[4]);
-    let log2bpmb = wide(r[5]);
-    let zones = wide(r[9]);
-    let spare = spare_of(r);
-    let size = size_of(r);
-    if fields_fit(log2secsize, idlen, log2bpmb, zones, spare) {
-        let g = geometry_from(log2secsize, idlen, log2bpmb, zones, spare, size);
-        if geometry_fits(g) {
-            return RecordRead::Accepted(g);
-        }
+    let r = record_in(&map[4..64]);
+    if !fields_fit(r) {
+        return RecordRead::Refused(refuse(2));
     }
-    RecordRead::Refused(Refusal { number: 2, zone: 0 })
+    let g = geometry_from(r);
+    if !geometry_fits(g) {
+        return RecordRead::Refused(refuse(2));
+    }
+    RecordRead::Accepted(g)
+}
+
+// A refusal that tells zone 0.
+pub fn refuse(number: u32) -> Refusal
+    ensures { λ r. ⌜ r ≡ refusal number 0 ⌝ }
+{
+    Refusal { number, zone: 0 }
 }
 
 impl Geometry {
-    // The zone where the search for an object's first fragment starts. Refused with 8: an id outside 1 to P*nzones - 1.
-    pub fn start_zone(self, id: u32) -> Start
-        ensures { λ r. ⌜ r ≡ startOf self id ⌝ }
+    // The zone where the search for an object's first fragment starts. Refused with 8: an id outside `low` to P*nzones - 1.
+    pub fn start_zone(self, low: u32, id: u32) -> Start
+        ensures { λ r. ⌜ r ≡ startOf self low id ⌝ }
     {
         let n = id as usize;
-        if n == 0 {
-            return Start::Refused(Refusal { number: 8, zone: 0 });
-        }
         if self.ids == 0 {
-            return Start::Refused(Refusal { number: 8, zone: 0 });
+            return Start::Refused(refuse(8));
         }
-        if self.zones <= n / self.ids {
-            return Start::Refused(Refusal { number: 8, zone: 0 });
+        if !both(low <= id, n / self.ids < self.zones) {
+            return Start::Refused(refuse(8));
         }
         if n == 2 {
             return Start::Zone(self.zones / 2);
@@ -100,7 +109,7 @@ impl Geometry {
         Start::Zone(n / self.ids)
     }
 
-    // Whether an id lies from `low` to P*nzones - 1.
+    // Whether an id lies from `low` to P*nzones - 1. On a geometry that was accepted the product fits.
     pub fn is_id(self, low: usize, id: usize) -> bool
         requires { ⌜ AcceptedGeometry self ⌝ }
         ensures { λ r. ⌜ r ≡ idFrom low self id ⌝ }
@@ -196,20 +205,27 @@ fn cluster_of(s: usize, b: usize) -> usize
     1
 }
 
-// zone_spare.
-fn spare_of(r: &[u8]) -> usize
+// The fields of a record's bytes.
+fn record_in(r: &[u8]) -> DiscRecord
     requires { ⌜ length (now r) ≡ 60 ⌝ }
-    ensures { λ n. ⌜ (n ≡ zoneSpare (now (r .entry))) × (n < 65536) ⌝ }
+    ensures { λ d. ⌜ (d ≡ recordIn (now (r .entry))) × (d .logsector < 256) ⌝ }
 {
-    wide(r[10]) + 256 * wide(r[11])
+    DiscRecord {
+        logsector: wide(r[0]),
+        idlen: wide(r[4]),
+        logunit: wide(r[5]),
+        zones: wide(r[9]),
+        spare: two_bytes(r, 10),
+        size: two_bytes(r, 16) + 65536 * two_bytes(r, 18),
+    }
 }
 
-// disc_size.
-fn size_of(r: &[u8]) -> usize
-    requires { ⌜ length (now r) ≡ 60 ⌝ }
-    ensures { λ n. ⌜ (n ≡ discSize (now (r .entry))) × (n < 4294967296) ⌝ }
+// The number of two bytes, least significant first.
+fn two_bytes(r: &[u8], at: usize) -> usize
+    requires { ⌜ at + 1 < length (now r) ⌝ }
+    ensures { λ n. ⌜ (n ≡ twoBytes (now (r .entry)) at) × (n < 65536) ⌝ }
 {
-    wide(r[16]) + 256 * wide(r[17]) + 65536 * wide(r[18]) + 16777216 * wide(r[19])
+    wide(r[at]) + 256 * wide(r[at + 1])
 }
 
 fn within(a: usize, x: usize, b: usize) -> bool
@@ -219,47 +235,37 @@ fn within(a: usize, x: usize, b: usize) -> bool
 }
 
 // The ranges of the fields one by one.
-fn fields_fit(log2secsize: usize, idlen: usize, log2bpmb: usize, zones: usize, spare: usize) -> bool
-    requires { ⌜ log2secsize < 256 ⌝ }
-    ensures { λ r. ⌜ r ≡ fieldsFit log2secsize idlen log2bpmb zones spare ⌝ }
+fn fields_fit(r: DiscRecord) -> bool
+    requires { ⌜ r .logsector < 256 ⌝ }
+    ensures { λ b. ⌜ b ≡ fieldsFit r ⌝ }
 {
-    let sizes = both(
-        within(8, log2secsize, 10),
-        both(
-            within(log2secsize + 3, idlen, LONGEST_ID),
-            within(7, log2bpmb, 12),
-        ),
-    );
-    both(sizes, both(within(1, zones, MOST_ZONES), 32 <= spare))
+    let sector = within(8, r.logsector, 10);
+    let id = within(r.logsector + 3, r.idlen, LONGEST_ID);
+    let unit = within(7, r.logunit, 12);
+    let zones = within(1, r.zones, MOST_ZONES);
+    both(sector, both(id, both(unit, both(zones, 32 <= r.spare))))
 }
 
 // The numbers that the fields fix. A zone_spare above 8S leaves no bits.
-fn geometry_from(
-    log2secsize: usize,
-    idlen: usize,
-    log2bpmb: usize,
-    zones: usize,
-    spare: usize,
-    size: usize,
-) -> Geometry
-    requires { ⌜ FieldRules log2secsize idlen log2bpmb zones spare ⌝ }
-    ensures { λ r. ⌜ r ≡ geometryFrom log2secsize idlen log2bpmb zones spare size ⌝ }
+fn geometry_from(r: DiscRecord) -> Geometry
+    requires { ⌜ FieldRules r ⌝ }
+    ensures { λ g. ⌜ g ≡ geometryFrom r ⌝ }
 {
-    let sector = power(log2secsize);
-    let unit = power(log2bpmb);
-    let bits = minus(8 * sector, spare);
+    let sector = power(r.logsector);
+    let unit = power(r.logunit);
+    let bits = minus(8 * sector, r.spare);
     let cluster = cluster_of(sector, unit);
     Geometry {
         sector,
-        idlen,
+        idlen: r.idlen,
         unit,
-        zones,
+        zones: r.zones,
         cluster,
         bits,
-        shortest: (idlen + 1 + cluster - 1) / cluster * cluster,
-        ids: bits / (idlen + 1),
-        size,
-        end: size / unit,
+        shortest: (r.idlen + 1 + cluster - 1) / cluster * cluster,
+        ids: bits / (r.idlen + 1),
+        size: r.size,
+        end: r.size / unit,
     }
 }
 

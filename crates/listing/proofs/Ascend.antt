@@ -15,9 +15,9 @@ use Rattle.model.specs.Rules.{zoneBlock}
 use Rattle.model.specs.Pieces.{toDisc}
 use Rattle.zone.specs.Lines.{entriesIn, holderNumber}
 use Rattle.map.specs.Accepted.{AcceptedMap}
-use Rattle.listing.specs.HeldBy.{heldBy, inDiscBits, heldIn, heldFrom}
+use Rattle.walk.specs.HeldBy.{heldBy, inDiscBits, heldIn, heldFrom}
 use Rattle.listing.specs.Laws.{At, first, later}
-use Rattle.listing.proofs.HeldLines.{length-held}
+use Rattle.walk.proofs.HeldLines.{length-held}
 use Rattle.walk.proofs.ZonesRead.{few-entries, zone-reads}
 use Rattle.listing.proofs.Filled.{Fills, entryToDisc, disc-entries-fill}
 

@@ -64,6 +64,9 @@ module _ {m : List ℕ} {g : Geometry} (a : AcceptedMap m g) where
   object-hits : (d id : ℕ) → hits d (objectPairs g id pieces) ≡ hits d (places (piecesOf id pieces))
   object-hits d id = hits-rotated d (late g id) (piecesOf id pieces)
 
+  pub object-once : (d id : ℕ) → hits d (objectPairs g id pieces) ≤ 1
+  object-once d id = omega (arith, at-most-once d, object-hits d id, hits-of-one d id pieces)
+
   somewhere : (d : ℕ) → d < discBits g → (p : Place) × LiesIn g (a .zones) d p
   somewhere d h =
       let f = fills-some d 0 (discBits g) all (map-fills a) (omega arith) h in
@@ -90,7 +93,7 @@ module _ {m : List ℕ} {g : Geometry} (a : AcceptedMap m g) where
   once d p q (in-piece id x i v w) (in-piece id2 y j v2 w2) =
       let e : id2 ≡ id = one-object d id2 id (hit-at d y j (objectPairs g id2 pieces) v2 w2) (hit-at d x i (objectPairs g id pieces) v w) in
       let v3 : At y j (objectPairs g id pieces) = subst (λ (k : ℕ). At y j (objectPairs g k pieces)) e v2 in
-      let k : i ≡ j = hit-once d (omega (arith, at-most-once d, object-hits d id, hits-of-one d id pieces)) v v3 w w2 in
+      let k : i ≡ j = hit-once d (object-once d id) v v3 w w2 in
       ap₂ piece (sym e) k
 
   pub covers : Covers g (a .zones)

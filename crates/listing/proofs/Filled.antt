@@ -14,7 +14,8 @@ use Rattle.model.specs.Fragments.{Fragment}
 use Rattle.model.specs.Chain.{Entry, onward, follow}
 use Rattle.model.specs.Blocks.{linkIn, allocBits}
 use Rattle.model.specs.Rules.{zoneBlock}
-use Rattle.model.specs.Check.{sound, zoneRead}
+use Rattle.model.specs.Answer.{answered}
+use Rattle.model.specs.Check.{zoneRead}
 use Rattle.model.specs.Pieces.{toDisc}
 use Rattle.model.proofs.FragmentsRead.{written-cut}
 use Rattle.model.proofs.Followed.{Long, total, Followed, was-free, was-owned, followed, none-left}
@@ -25,7 +26,8 @@ use Rattle.zone.proofs.AllocBits.{first-high, ZoneBlock, bits-left, alloc-all}
 use Rattle.zone.proofs.EntriesRead.{is-read}
 use Rattle.map.specs.Accepted.{AcceptedMap}
 use Rattle.walk.specs.SoundZone.{SoundZone}
-use Rattle.walk.proofs.ZonesRead.{ReadInTurn, zones-in-turn, zone-reads}
+use Rattle.walk.proofs.ZonesRead.{zone-reads}
+use Rattle.map.proofs.Accepts.{ReadInTurn, zones-in-turn}
 
 abbrev pub Fills : ℕ → ℕ → List Entry → Type 0
 Fills at end [] = at ≡ end
@@ -80,14 +82,14 @@ zone-to : (g : Geometry) (z : ℕ) → discBit g z (endBit g) ≡ zoneFrom g (su
 zone-to g z = omega (arith, suc-mul z (g .bits))
 
 module _ {m : List ℕ} {g : Geometry} (a : AcceptedMap m g) where
-  pub entries-fill : (z : ℕ) (es : List Entry) → z < g .zones → zoneRead g z (zoneBlock g m z) ≡ sound es → Fills (firstBit z) (endBit g) es
+  pub entries-fill : (z : ℕ) (es : List Entry) → z < g .zones → zoneRead g z (zoneBlock g m z) ≡ answered es → Fills (firstBit z) (endBit g) es
   entries-fill z es h e =
       subst (λ (x : List Entry). Fills (firstBit z) (endBit g) x) (is-read g z (zoneBlock g m z) es e .0) (zone-fills (zone-reads a z h))
 
-  pub disc-entries-fill : (z : ℕ) (es : List Entry) → z < g .zones → zoneRead g z (zoneBlock g m z) ≡ sound es
+  pub disc-entries-fill : (z : ℕ) (es : List Entry) → z < g .zones → zoneRead g z (zoneBlock g m z) ≡ answered es
       → Fills (zoneFrom g z) (zoneFrom g (suc z)) (map (entryToDisc g z) es)
   disc-entries-fill z es h e =
-      let f = disc-fills g z (firstBit z) (endBit g) es (from-zero-on g (a .numbers) z (firstBit z) (omega arith)) (entries-fill z es h e) in
+      let f = disc-fills g z (firstBit z) (endBit g) es (from-zero-on g (a .readable .numbers) z (firstBit z) (omega arith)) (entries-fill z es h e) in
       subst (λ (x : Type 0). x) (λ i. Fills (zone-from g z i) (zone-to g z i) (map (entryToDisc g z) es)) f
 
   zones-fill : (z : ℕ) (ess : List (List Entry)) → ReadInTurn m g z ess → Fills (zoneFrom g z) (discBits g) (discEntries g z ess)

@@ -1,8 +1,8 @@
 -- The free spans are what holder 0 has: on an accepted map every owner is 1 or more, so no owned fragment counts as free.
 use mathlib.Core.Path.{_≡_, refl, sym, ap, ap₂, _∙_}
-use mathlib.Core.Bool.{true, cond, not, _&&_, _||_}
+use mathlib.Core.Bool.{true, cond}
 use mathlib.Core.List.{List, [], _∷_, _++_, map}
-use Prim.Native.Nat.{ℕ, suc, _+_, _-_, _*_, _/_, _≤_}
+use Prim.Native.Nat.{ℕ, suc, _+_, _-_, _*_, _≤_}
 use native.Mathlib.Nat.{sub-zero}
 use native.Mathlib.Omega.{arith}
 use lib.Dec.{eqb, leb, ltb}
@@ -11,21 +11,15 @@ use Rattle.bits.proofs.Tests.{both}
 use Rattle.geometry.specs.declared.Geometry.{Geometry}
 use Rattle.model.specs.Chain.{Pair, Holder, free, owned, Entry}
 use Rattle.model.specs.Rules.{zoneBlock}
-use Rattle.model.specs.Check.{sound, zoneRead, every, holderFits, idFits, endFits, firstOwned}
+use Rattle.model.specs.Check.{every, holderFits, idFits}
 use Rattle.model.specs.Pieces.{toDisc, freeIf, freeOf, freeSpans}
-use Rattle.model.proofs.ZoneTests.{zone-tests}
 use Rattle.zone.specs.Lines.{entriesIn, holderNumber}
 use Rattle.zone.proofs.EntriesRead.{is-read}
 use Rattle.map.specs.Accepted.{AcceptedMap}
-use Rattle.listing.specs.HeldBy.{heldBy, inDiscBits, heldIn, heldFrom}
-use Rattle.walk.proofs.ZonesRead.{ReadInTurn, zones-in-turn}
+use Rattle.walk.proofs.OwnersSome.{ids-fit}
+use Rattle.walk.specs.HeldBy.{heldBy, inDiscBits, heldIn, heldFrom}
+use Rattle.map.proofs.Accepts.{ReadInTurn, zones-in-turn}
 use Rattle.listing.proofs.HeldZones.{held-turn, held-end}
-
--- every holder of a zone that was read is free, or owned by 1 or more
-pub ids-fit : (g : Geometry) (z : ℕ) (b : List ℕ) (es : List Entry) → zoneRead g z b ≡ sound es → every (idFits g) es ≡ true
-ids-fit g z b es e =
-    let p = both (every (idFits g) es && every (endFits g z) es) (not (eqb z (g .zones / 2)) || firstOwned 2 es) (zone-tests g z b es e .owners) in
-    both (every (idFits g) es) (every (endFits g z) es) (p .0) .0
 
 free-step : (g : Geometry) (h : Holder) (q : Pair) (ps qs : List Pair) → holderFits g h ≡ true → ps ≡ qs → cond (eqb (holderNumber h) 0) (q ∷ ps) ps ≡ freeIf h q qs
 free-step g free q ps qs f e = ap (λ (r : List Pair). q ∷ r) e

@@ -5,24 +5,25 @@ use Prim.Native.Nat.{ℕ, _-_, _≤_}
 use Rattle.geometry.specs.Record.{geometryOf}
 use Rattle.geometry.specs.Places.{startZone}
 use Rattle.model.specs.Chain.{Pair, Entry}
-use Rattle.model.specs.Check.{entries, mapRead}
+use Rattle.model.specs.Answer.{answered}
+use Rattle.model.specs.Check.{mapRead}
 use Rattle.model.specs.Pieces.{piecesOfZones, objectPairs, freeSpans}
 use Rattle.map.specs.Accepted.{AcceptedMap}
 use Rattle.map.specs.Checked.{checkAnswer}
 use Rattle.map.proofs.Accepts.{accepts}
-use Rattle.listing.specs.HeldBy.{heldFrom}
+use Rattle.walk.specs.HeldBy.{heldFrom}
 use Rattle.listing.specs.Laws.{At, Covers, ListingLaws}
 use Rattle.listing.proofs.FreeHeld.{free-spans}
 use Rattle.listing.proofs.ObjectOrder.{in-object-order}
 use Rattle.listing.proofs.Cover.{covers}
 use Rattle.listing.proofs.InTurn.{spans-ascend, pieces-ascend}
 
-module _ (m : List ℕ) (ess : List (List Entry)) (e : mapRead m ≡ entries ess) where
-  accepted : AcceptedMap m (geometryOf m)
+module _ (m : List ℕ) (ess : List (List Entry)) (e : mapRead m ≡ answered ess) where
+  pub accepted : AcceptedMap m (geometryOf m)
   accepted = accepts m (geometryOf m) (ap (checkAnswer (geometryOf m)) e)
 
-  same-zones : accepted .zones ≡ ess
-  same-zones = let k : entries (accepted .zones) ≡ entries ess = sym (accepted .read) ∙ e in cc
+  pub same-zones : accepted .zones ≡ ess
+  same-zones = let k : answered (accepted .zones) ≡ answered ess = sym (accepted .read) ∙ e in cc
 
   cover : Covers (geometryOf m) ess
   cover = subst (λ (x : List (List Entry)). Covers (geometryOf m) x) same-zones (covers accepted)

@@ -1,5 +1,5 @@
 pub mod Stored
-pub mod HeldLines
+pub mod LinesStored
 pub mod HeldZones
 pub mod Filled
 pub mod Ascend

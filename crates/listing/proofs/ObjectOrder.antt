@@ -2,7 +2,7 @@
 -- it: all pieces of a zone lie in that zone, so the start zone's test keeps a zone whole or leaves it out whole.
 use mathlib.Core.Path.{_≡_, refl, sym, ap, ap₂, _∙_}
 use mathlib.Core.Bool.{Bool, true, false, cond, not}
-use mathlib.Core.List.{List, [], _∷_, _++_, map}
+use mathlib.Core.List.{List, [], _∷_, _++_, map, append-nil, append-assoc}
 use Prim.Native.Nat.{ℕ, suc, _+_, _-_, _<_, _≤_}
 use native.Mathlib.Nat.{sub-zero}
 use native.Mathlib.Omega.{arith}
@@ -10,7 +10,7 @@ use lib.Dec.{eqb, leb, ltb}
 use borrow.Author.Tests.{le-leb, lt-leb, ltb-true, ltb-false, ne-eqb}
 use Rattle.bits.proofs.Tests.{by-test}
 use Rattle.geometry.specs.declared.Geometry.{Geometry}
-use Rattle.geometry.specs.Places.{firstBit, endBit, discBit, zoneOf, startZone}
+use Rattle.geometry.specs.Places.{firstBit, endBit, startZone}
 use Rattle.geometry.proofs.DiscBits.{zone-of-disc}
 use Rattle.model.specs.Chain.{Pair, Holder, free, owned, Entry}
 use Rattle.model.specs.Rules.{zoneBlock}
@@ -19,8 +19,8 @@ use Rattle.model.proofs.Lists.{keep-append}
 use Rattle.zone.specs.Lines.{entriesIn, holderNumber}
 use Rattle.zone.proofs.EntriesRead.{is-read}
 use Rattle.map.specs.Accepted.{AcceptedMap}
-use Rattle.listing.specs.HeldBy.{heldBy, inDiscBits, heldIn, heldFrom}
-use Rattle.walk.proofs.ZonesRead.{ReadInTurn, zones-in-turn}
+use Rattle.walk.specs.HeldBy.{heldBy, inDiscBits, heldIn, heldFrom}
+use Rattle.map.proofs.Accepts.{ReadInTurn, zones-in-turn}
 use Rattle.listing.proofs.HeldZones.{held-turn, held-end}
 use Rattle.listing.proofs.Filled.{Fills, fills-le, entries-fill}
 
@@ -32,9 +32,11 @@ pub places-append : (ps qs : List Piece) → places (ps ++ qs) ≡ places ps ++ 
 places-append [] qs = refl
 places-append (p ∷ ps) qs = ap (λ (r : List Pair). p .at ∷ r) (places-append ps qs)
 
--- one zone: a test that gives all its bits one answer
-module _ (g : Geometry) (z id : ℕ) (some : 1 ≤ id) (t : Piece → Bool) (b : Bool)
-    (same : (q : Pair) (o : ℕ) → firstBit z ≤ q .start → q .start < endBit g → t (record { at = toDisc g z q; owner = o }) ≡ b) where
+-- a test that gives all bits of a zone one answer
+abbrev Same : Geometry → (Piece → Bool) → Bool → ℕ → Type 0
+Same g t b z = (q : Pair) (o : ℕ) → firstBit z ≤ q .start → q .start < endBit g → t (record { at = toDisc g z q; owner = o }) ≡ b
+
+module _ (g : Geometry) (z id : ℕ) (some : 1 ≤ id) (t : Piece → Bool) (b : Bool) (same : Same g t b z) where
   kept-step : (h : Holder) (q : Pair) (ps : List Piece) (qs : List Pair) → firstBit z ≤ q .start → q .start < endBit g
       → places (keep t (piecesOf id (map (pieceToDisc g z) ps))) ≡ cond b (inDiscBits g z qs) []
       → places (keep t (piecesOf id (map (pieceToDisc g z) (ownedIf h q ps)))) ≡ cond b (inDiscBits g z (cond (eqb (holderNumber h) id) (q ∷ qs) qs)) []
@@ -58,13 +60,7 @@ module _ (g : Geometry) (z id : ℕ) (some : 1 ≤ id) (t : Piece → Bool) (b :
       kept-step (e .holder) (e .at) (ownedOf es) (heldBy id es) (omega arith) (omega arith) (kept-zone (at + e .at .len) es (omega arith) (f .2))
 
 -- the zones in turn
-module _ {m : List ℕ} {g : Geometry} (a : AcceptedMap m g) (id : ℕ) (some : 1 ≤ id) (inside : startZone g id ≤ g .zones) where
-  abbrev s : ℕ
-  s = startZone g id
-
-  abbrev early : Piece → Bool
-  early p = not (late g id p)
-
+module _ {m : List ℕ} {g : Geometry} (a : AcceptedMap m g) (id : ℕ) (some : 1 ≤ id) where
   -- the places of those that pass a test, from zone z on
   abbrev passed : (Piece → Bool) → ℕ → List (List Entry) → List Pair
   passed t z ess = places (keep t (piecesOf id (piecesOfZones g z ess)))
@@ -76,60 +72,72 @@ module _ {m : List ℕ} {g : Geometry} (a : AcceptedMap m g) (id : ℕ) (some : 
       ∙ ap places (keep-append t (piecesOf id (map (pieceToDisc g z) (ownedOf es))) (piecesOf id (piecesOfZones g (suc z) ess)))
       ∙ places-append (keep t (piecesOf id (map (pieceToDisc g z) (ownedOf es)))) (keep t (piecesOf id (piecesOfZones g (suc z) ess)))
 
-  -- zone z is passed whole, or left out whole
-  whole-zone : (t : Piece → Bool) (b : Bool) (z : ℕ) (es : List Entry) (ess : List (List Entry)) → ReadInTurn m g z (es ∷ ess)
-      → ((q : Pair) (o : ℕ) → firstBit z ≤ q .start → q .start < endBit g → t (record { at = toDisc g z q; owner = o }) ≡ b)
-      → passed t z (es ∷ ess) ≡ cond b (heldIn g id m z) [] ++ passed t (suc z) ess
-  whole-zone t b z es ess r same =
-      let e : es ≡ entriesIn g z (zoneBlock g m z) = sym (is-read g z (zoneBlock g m z) es (r .1) .0) in
-      first-zone t z es ess
-      ∙ ap (λ (x : List Pair). x ++ passed t (suc z) ess)
-      (kept-zone g z id some t b same (firstBit z) es (omega arith) (entries-fill a z es (r .0) (r .1)) ∙ ap (λ (x : List Entry). cond b (inDiscBits g z (heldBy id x)) []) e)
+  -- what the object has in zones z to n, or nothing
+  abbrev heldIf : Bool → ℕ → ℕ → List Pair
+  heldIf b z n = cond b (heldFrom g id m z (n - z)) []
 
-  in-zone : (z : ℕ) (q : Pair) → firstBit z ≤ q .start → q .start < endBit g → leb s (zoneOf g (discBit g z (q .start))) ≡ leb s z
-  in-zone z q l h = ap (leb s) (zone-of-disc g (a .numbers) z (q .start) l h)
-
-  is-late : (z : ℕ) → s ≤ z → (q : Pair) (o : ℕ) → firstBit z ≤ q .start → q .start < endBit g → late g id (record { at = toDisc g z q; owner = o }) ≡ true
-  is-late z k q o l h = in-zone z q l h ∙ le-leb s z k
-
-  is-early : (z : ℕ) → z < s → (q : Pair) (o : ℕ) → firstBit z ≤ q .start → q .start < endBit g → late g id (record { at = toDisc g z q; owner = o }) ≡ false
-  is-early z k q o l h = in-zone z q l h ∙ lt-leb s z k
-
-  -- from the start zone on
-  all-late : (z : ℕ) (ess : List (List Entry)) → ReadInTurn m g z ess → s ≤ z → passed (late g id) z ess ≡ heldFrom g id m z (g .zones - z)
-  all-late z [] r k = sym (held-end g id m z (g .zones) (omega arith))
-  all-late z (es ∷ ess) r k =
+  if-turn : (b : Bool) (z n : ℕ) → z < n → cond b (heldIn g id m z) [] ++ heldIf b (suc z) n ≡ heldIf b z n
+  if-turn true z n k =
       let f : suc z ≡ z + 1 = omega arith in
-      whole-zone (late g id) true z es ess r (is-late z k)
-      ∙ ap (λ (x : List Pair). heldIn g id m z ++ x) (all-late (suc z) ess (r .2) (omega arith) ∙ ap (λ (i : ℕ). heldFrom g id m i (g .zones - i)) f)
-      ∙ sym (held-turn g id m z (g .zones) (r .0))
+      ap (λ (i : ℕ). heldIn g id m z ++ heldFrom g id m i (n - i)) f ∙ sym (held-turn g id m z n k)
+  if-turn false z n k = refl
 
-  none-early : (z : ℕ) (ess : List (List Entry)) → ReadInTurn m g z ess → s ≤ z → passed early z ess ≡ []
-  none-early z [] r k = refl
-  none-early z (es ∷ ess) r k =
-      whole-zone early false z es ess r (λ q o l h. ap not (is-late z k q o l h)) ∙ none-early (suc z) ess (r .2) (omega arith)
+  if-end : (b : Bool) (z n : ℕ) → n ≤ z → heldIf b z n ≡ []
+  if-end true z n k = held-end g id m z n k
+  if-end false z n k = refl
 
-  -- before it
-  late-from : (z : ℕ) (ess : List (List Entry)) → ReadInTurn m g z ess → z ≤ s → passed (late g id) z ess ≡ heldFrom g id m s (g .zones - s)
-  late-from z [] r k = sym (held-end g id m s (g .zones) (omega arith))
-  late-from z (es ∷ ess) r k =
-      by-test (ltb z s)
-      (λ u. whole-zone (late g id) false z es ess r (is-early z (ltb-true z s u)) ∙ late-from (suc z) ess (r .2) (ltb-true z s u))
-      (λ u. let e : z ≡ s = omega (arith, ltb-false) in all-late z (es ∷ ess) r (omega arith) ∙ ap (λ (i : ℕ). heldFrom g id m i (g .zones - i)) e)
+  -- a test that answers b in the zones before s, and c in those from s on
+  module _ (t : Piece → Bool) (b c : Bool) (s : ℕ) (before : (z : ℕ) → z < s → Same g t b z) (on : (z : ℕ) → s ≤ z → Same g t c z) where
+    -- zone z is passed whole, or left out whole
+    whole-zone : (x : Bool) (z : ℕ) (es : List Entry) (ess : List (List Entry)) (rest : List Pair) → ReadInTurn m g z (es ∷ ess) → Same g t x z → passed t (suc z) ess ≡ rest
+        → passed t z (es ∷ ess) ≡ cond x (heldIn g id m z) [] ++ rest
+    whole-zone x z es ess rest r same q =
+        let e : es ≡ entriesIn g z (zoneBlock g m z) = sym (is-read g z (zoneBlock g m z) es (r .1) .0) in
+        first-zone t z es ess
+        ∙ ap₂ (λ (x y : List Pair). x ++ y)
+        (kept-zone g z id some t x same (firstBit z) es (omega arith) (entries-fill a z es (r .0) (r .1)) ∙ ap (λ (y : List Entry). cond x (inDiscBits g z (heldBy id y)) []) e) q
 
-  early-to : (z : ℕ) (ess : List (List Entry)) → ReadInTurn m g z ess → z ≤ s → passed early z ess ≡ heldFrom g id m z (s - z)
-  early-to z [] r k = sym (held-end g id m z s (omega arith))
-  early-to z (es ∷ ess) r k =
-      let f : suc z ≡ z + 1 = omega arith in
-      by-test (ltb z s)
-      (λ u. whole-zone early true z es ess r (λ q o l h. ap not (is-early z (ltb-true z s u) q o l h))
-      ∙ ap (λ (x : List Pair). heldIn g id m z ++ x) (early-to (suc z) ess (r .2) (ltb-true z s u) ∙ ap (λ (i : ℕ). heldFrom g id m i (s - i)) f)
-      ∙ sym (held-turn g id m z s (ltb-true z s u)))
-      (λ u. none-early z (es ∷ ess) r (ltb-false z s u) ∙ sym (held-end g id m z s (ltb-false z s u)))
+    from-on : (z : ℕ) (ess : List (List Entry)) → ReadInTurn m g z ess → s ≤ z → passed t z ess ≡ heldIf c z (g .zones)
+    from-on z [] r k = sym (if-end c z (g .zones) (omega arith))
+    from-on z (es ∷ ess) r k =
+        whole-zone c z es ess (heldIf c (suc z) (g .zones)) r (on z k) (from-on (suc z) ess (r .2) (omega arith)) ∙ if-turn c z (g .zones) (r .0)
 
-  pub in-object-order : objectPairs g id (piecesOfZones g 0 (a .zones)) ≡ heldFrom g id m s (g .zones - s) ++ heldFrom g id m 0 s
-  in-object-order =
+    in-parts : (z : ℕ) (ess : List (List Entry)) → ReadInTurn m g z ess → z ≤ s → s ≤ g .zones → passed t z ess ≡ heldIf b z s ++ heldIf c s (g .zones)
+    in-parts z [] r k h = sym (ap₂ (λ (x y : List Pair). x ++ y) (if-end b z s (omega arith)) (if-end c s (g .zones) (omega arith)))
+    in-parts z (es ∷ ess) r k h =
+        by-test (ltb z s)
+        (λ u. let l = ltb-true z s u in
+        whole-zone b z es ess (heldIf b (suc z) s ++ heldIf c s (g .zones)) r (before z l) (in-parts (suc z) ess (r .2) l h)
+        ∙ sym (append-assoc (cond b (heldIn g id m z) []) (heldIf b (suc z) s) (heldIf c s (g .zones)))
+        ∙ ap (λ (x : List Pair). x ++ heldIf c s (g .zones)) (if-turn b z s l))
+        (λ u. let e : z ≡ s = omega (arith, ltb-false) in
+        from-on z (es ∷ ess) r (omega arith)
+        ∙ (λ i. sym (if-end b z s (ltb-false z s u)) i ++ heldIf c (e i) (g .zones)))
+
+  abbrev s : ℕ
+  s = startZone g id
+
+  in-zone : (z : ℕ) (x : Bool) → leb s z ≡ x → Same g (late g id) x z
+  in-zone z x e q o l h = ap (leb s) (zone-of-disc g (a .readable .numbers) z (q .start) l h) ∙ e
+
+  abbrev early : Piece → Bool
+  early p = not (late g id p)
+
+  pub in-object-order : s ≤ g .zones → objectPairs g id (piecesOfZones g 0 (a .zones)) ≡ heldFrom g id m s (g .zones - s) ++ heldFrom g id m 0 s
+  in-object-order inside =
       places-append (keep (late g id) (piecesOf id (piecesOfZones g 0 (a .zones)))) (keep early (piecesOf id (piecesOfZones g 0 (a .zones))))
       ∙ ap₂ (λ (x y : List Pair). x ++ y)
-      (late-from 0 (a .zones) (zones-in-turn a) (omega arith))
-      (early-to 0 (a .zones) (zones-in-turn a) (omega arith) ∙ ap (heldFrom g id m 0) (sub-zero s))
+      (in-parts (late g id) false true s (λ z k. in-zone z false (lt-leb s z k)) (λ z k. in-zone z true (le-leb s z k)) 0 (a .zones) (zones-in-turn a) (omega arith) inside)
+      (in-parts early true false s (λ z k q o l h. ap not (in-zone z false (lt-leb s z k) q o l h)) (λ z k q o l h. ap not (in-zone z true (le-leb s z k) q o l h)) 0 (a .zones) (zones-in-turn a) (omega arith) inside
+      ∙ append-nil (heldFrom g id m 0 (s - 0)) ∙ ap (heldFrom g id m 0) (sub-zero s))
+
+  keep-all : (ps : List Piece) → keep (λ (p : Piece). true) ps ≡ ps
+  keep-all [] = refl
+  keep-all (p ∷ ps) = ap (λ (r : List Piece). p ∷ r) (keep-all ps)
+
+  -- and in the order of the zones they are what it has in all zones
+  pub object-held : places (piecesOf id (piecesOfZones g 0 (a .zones))) ≡ heldFrom g id m 0 (g .zones)
+  object-held =
+      ap places (sym (keep-all (piecesOf id (piecesOfZones g 0 (a .zones)))))
+      ∙ in-parts (λ p. true) false true 0 (λ z k. absurd (omega arith)) (λ z k q o l h. refl) 0 (a .zones) (zones-in-turn a) (omega arith) (omega arith)
+      ∙ ap (heldFrom g id m 0) (sub-zero (g .zones))

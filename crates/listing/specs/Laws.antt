@@ -3,12 +3,13 @@ use mathlib.Core.Path.{_≡_}
 use mathlib.Core.List.{List, [], _∷_, _++_}
 use Prim.Native.Nat.{ℕ, suc, _+_, _-_, _<_, _≤_}
 use Rattle.geometry.specs.declared.Geometry.{Geometry}
-use Rattle.geometry.specs.Record.{geometryOf, geometryFrom}
+use Rattle.geometry.specs.Record.{geometryOf, geometryFrom, eightZones}
 use Rattle.geometry.specs.Places.{discBits, startZone, discBit}
 use Rattle.model.specs.Chain.{Pair, Within, Entry}
-use Rattle.model.specs.Check.{entries, mapRead}
+use Rattle.model.specs.Answer.{answered}
+use Rattle.model.specs.Check.{mapRead}
 use Rattle.model.specs.Pieces.{Piece, piecesOfZones, objectPairs, InObjectOrder, freeSpans}
-use Rattle.listing.specs.HeldBy.{heldFrom}
+use Rattle.walk.specs.HeldBy.{heldFrom}
 
 -- a pair stands at a place of a list
 pub data At : Pair → ℕ → List Pair → Type 0 where
@@ -31,23 +32,23 @@ module _ (g : Geometry) (ess : List (List Entry)) where
     pub once : (d : ℕ) (p q : Place) → LiesIn d p → LiesIn d q → p ≡ q
 
 pub record ListingLaws : Type 0 where
-  pub cover : (m : List ℕ) (ess : List (List Entry)) → mapRead m ≡ entries ess → Covers (geometryOf m) ess
+  pub cover : (m : List ℕ) (ess : List (List Entry)) → mapRead m ≡ answered ess → Covers (geometryOf m) ess
   -- "take all its fragments [of the start zone] in ascending order, then later zones, then from zone 0"
-  pub in-object-order : (m : List ℕ) (ess : List (List Entry)) → mapRead m ≡ entries ess → (id : ℕ) → 1 ≤ id → startZone (geometryOf m) id ≤ (geometryOf m) .zones
+  pub in-object-order : (m : List ℕ) (ess : List (List Entry)) → mapRead m ≡ answered ess → (id : ℕ) → 1 ≤ id → startZone (geometryOf m) id ≤ (geometryOf m) .zones
       → objectPairs (geometryOf m) id (piecesOfZones (geometryOf m) 0 ess)
       ≡ heldFrom (geometryOf m) id m (startZone (geometryOf m) id) ((geometryOf m) .zones - startZone (geometryOf m) id) ++ heldFrom (geometryOf m) id m 0 (startZone (geometryOf m) id)
   -- the free spans are those of zone 0, then of the later zones
-  pub free-by-zone : (m : List ℕ) (ess : List (List Entry)) → mapRead m ≡ entries ess
+  pub free-by-zone : (m : List ℕ) (ess : List (List Entry)) → mapRead m ≡ answered ess
       → freeSpans (geometryOf m) 0 ess ≡ heldFrom (geometryOf m) 0 m 0 ((geometryOf m) .zones)
   -- "Free spans ascend": each ends before the next one starts
-  pub spans-ascend : (m : List ℕ) (ess : List (List Entry)) → mapRead m ≡ entries ess → (i j : ℕ) (p q : Pair) → i < j
+  pub spans-ascend : (m : List ℕ) (ess : List (List Entry)) → mapRead m ≡ answered ess → (i j : ℕ) (p q : Pair) → i < j
       → At p i (freeSpans (geometryOf m) 0 ess) → At q j (freeSpans (geometryOf m) 0 ess) → p .start + p .len ≤ q .start
   -- and an object's pieces in object order: ascending from the start zone on, then ascending in the zones before it
-  pub pieces-ascend : (m : List ℕ) (ess : List (List Entry)) → mapRead m ≡ entries ess → (id i j : ℕ) (p q : Pair) → i < j
+  pub pieces-ascend : (m : List ℕ) (ess : List (List Entry)) → mapRead m ≡ answered ess → (id i j : ℕ) (p q : Pair) → i < j
       → At p i (objectPairs (geometryOf m) id (piecesOfZones (geometryOf m) 0 ess)) → At q j (objectPairs (geometryOf m) id (piecesOfZones (geometryOf m) 0 ess))
       → InObjectOrder (geometryOf m) (startZone (geometryOf m) id) p q
   -- document 000's object 690, 168 ids per zone: fragments in zones 0 0 0 2 3 4 4 6 come in the order 4 4 6 0 0 0 2 3
-  pub object-690 : let g = geometryFrom 8 11 10 8 32 12582912 in
+  pub object-690 : let g = geometryFrom eightZones in
       let at : ℕ → ℕ → Piece = λ z b. record { at = record { start = discBit g z b; len = 12 }; owner = 690 } in
       let pair : ℕ → ℕ → Pair = λ z b. record { start = discBit g z b; len = 12 } in
       objectPairs g 690 (at 0 600 ∷ at 0 700 ∷ at 0 800 ∷ at 2 100 ∷ at 3 100 ∷ at 4 100 ∷ at 4 200 ∷ at 6 100 ∷ [])

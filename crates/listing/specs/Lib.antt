@@ -1,3 +1,2 @@
-pub mod HeldBy
 pub mod Listed
 pub mod Laws

@@ -1,7 +1,6 @@
 -- What the listing calls answer, and what they leave in the lent list (document 01, "The calls", refusals 8, 10, 17).
 -- Assumes nothing.
 use mathlib.Core.Path.{_≡_}
-use mathlib.Core.Bool.{cond}
 use mathlib.Core.List.{List, [], _∷_, _++_}
 use Prim.Native.Nat.{ℕ, _*_}
 use lib.Dec.{leb}
@@ -10,55 +9,45 @@ use Rattle.geometry.specs.declared.Geometry.{Geometry}
 use Rattle.geometry.specs.Record.{geometryOf}
 use Rattle.geometry.specs.Places.{idFrom}
 use Rattle.geometry.specs.Answers.{refusal}
-use Rattle.model.specs.Chain.{Pair, numbersOf}
-use Rattle.model.specs.Check.{MapRead, mapRead}
-use Rattle.model.specs.Check as read
+use Rattle.model.specs.Chain.{Pair, Entry, numbersOf}
+use Rattle.model.specs.Answer.{Answer, refused, answered, unless, andThen}
+use Rattle.model.specs.Check.{mapRead}
 use Rattle.model.specs.Pieces.{piecesOfZones, objectPairs, freeSpans}
 use Rattle.listing.specs.declared.Listed.{Listed}
 use Rattle.listing.specs.declared.Listed.the-variants as listed
 
--- pairs, or a refusal and its zone
-pub data PairsFound : Type 0 where
-  found : List Pair → PairsFound
-  refused : ℕ → ℕ → PairsFound
-
 -- 17: "too few entries for the pairs"
-abbrev pub withRoom : ℕ → List Pair → PairsFound
-withRoom room qs = cond (leb (2 * length qs) room) (found qs) (refused 17 0)
+abbrev pub withRoom : ℕ → List Pair → Answer (List Pair)
+withRoom room qs = unless (leb (2 * length qs) room) 17 (answered qs)
 
 -- 10: "id not on the map"
-abbrev pub present : ℕ → List Pair → PairsFound
-present room [] = refused 10 0
-present room (q ∷ qs) = withRoom room (q ∷ qs)
+abbrev pub present : List Pair → Answer (List Pair)
+present [] = refused 10 0
+present (q ∷ qs) = answered (q ∷ qs)
 
 -- an object's pieces in object order
-abbrev pub objectRead : Geometry → ℕ → ℕ → MapRead → PairsFound
-objectRead g id room (read.refused n z) = refused n z
-objectRead g id room (read.entries ess) = cond (idFrom 1 g id) (present room (objectPairs g id (piecesOfZones g 0 ess))) (refused 8 0)
+abbrev pub objectRead : Geometry → ℕ → ℕ → List (List Entry) → Answer (List Pair)
+objectRead g id room ess = unless (idFrom 1 g id) 8 (andThen (present (objectPairs g id (piecesOfZones g 0 ess))) (withRoom room))
 
-abbrev pub objectFound : List ℕ → ℕ → ℕ → PairsFound
-objectFound m id room = objectRead (geometryOf m) id room (mapRead m)
+abbrev pub objectFound : List ℕ → ℕ → ℕ → Answer (List Pair)
+objectFound m id room = andThen (mapRead m) (objectRead (geometryOf m) id room)
 
 -- the free spans
-abbrev pub freeRead : Geometry → ℕ → MapRead → PairsFound
-freeRead g room (read.refused n z) = refused n z
-freeRead g room (read.entries ess) = withRoom room (freeSpans g 0 ess)
-
-abbrev pub freeFound : List ℕ → ℕ → PairsFound
-freeFound m room = freeRead (geometryOf m) room (mapRead m)
+abbrev pub freeFound : List ℕ → ℕ → Answer (List Pair)
+freeFound m room = andThen (mapRead m) (λ (ess : List (List Entry)). withRoom room (freeSpans (geometryOf m) 0 ess))
 
 -- the answer: how many pairs
-abbrev pub listAnswer : PairsFound → Listed
-listAnswer (found qs) = listed.Pairs (length qs)
+abbrev pub listAnswer : Answer (List Pair) → Listed
+listAnswer (answered qs) = listed.Pairs (length qs)
 listAnswer (refused n z) = listed.Refused (refusal n z)
 
 -- "Entries past the last pair are untouched"; a refusal writes nothing
-abbrev pub listAfter : List ℕ → PairsFound → List ℕ
-listAfter old (found qs) = numbersOf qs ++ drop (2 * length qs) old
+abbrev pub listAfter : List ℕ → Answer (List Pair) → List ℕ
+listAfter old (answered qs) = numbersOf qs ++ drop (2 * length qs) old
 listAfter old (refused n z) = old
 
 -- the answer, and every entry of the lent list
-pub record Lists (found : PairsFound) (old : List ℕ) (r : Listed) (new : List ℕ) : Type 0 where
+pub record Lists (found : Answer (List Pair)) (old : List ℕ) (r : Listed) (new : List ℕ) : Type 0 where
   pub answer : r ≡ listAnswer found
   pub list : new ≡ listAfter old found
 

@@ -3,6 +3,7 @@
 use geometry::Geometry;
 use geometry::Refusal;
 use geometry::Start;
+use geometry::refuse;
 use map::Checked;
 ghost use mathlib.Core.Path.{_≡_};
 ghost use mathlib.Core.Bool.{cond};
@@ -13,7 +14,7 @@ ghost use lib.ListN.{length};
 ghost use lib.Seq.{sets};
 ghost use Rattle.model.specs.Chain.{numbersOf};
 ghost use Rattle.map.specs.Accepted.{AcceptedMap};
-ghost use Rattle.listing.specs.HeldBy.{heldFrom};
+ghost use Rattle.walk.specs.HeldBy.{heldFrom};
 ghost use Rattle.listing.specs.Listed.{objectFound, freeFound, Lists};
 ghost use Rattle.listing.specs.Laws.{ListingLaws};
 
@@ -42,14 +43,11 @@ pub fn free(map: &[u8], pairs: &mut [u32]) -> Listed
         Checked::Refused(r) => Listed::Refused(r),
         Checked::Accepted(g) => {
             let zones = g.zones;
-            let spans = count_zones(map, g, 0);
+            let spans = count_held(map, g, 0);
             if pairs.len() / 2 < spans {
-                return Listed::Refused(Refusal {
-                    number: 17,
-                    zone: 0,
-                });
+                return Listed::Refused(refuse(17));
             }
-            write_zones(map, g, 0, 0, zones, pairs, 0);
+            write_held(map, g, 0, 0, zones, pairs, 0);
             Listed::Pairs(spans)
         }
     }
@@ -60,32 +58,26 @@ pub fn list_object(map: &[u8], g: Geometry, id: u32, pairs: &mut [u32]) -> Liste
     requires { ⌜ AcceptedMap (now map) g ⌝ }
     ensures { λ r. ⌜ Lists (objectFound (now (map .entry)) id (length (now (pairs .entry)))) (now (pairs .entry)) r (now (pairs .exit)) ⌝ }
 {
-    match g.start_zone(id) {
+    match g.start_zone(1, id) {
         Start::Refused(r) => Listed::Refused(r),
         Start::Zone(start) => {
             let zones = g.zones;
-            let n = count_zones(map, g, id);
+            let n = count_held(map, g, id);
             if n == 0 {
-                return Listed::Refused(Refusal {
-                    number: 10,
-                    zone: 0,
-                });
+                return Listed::Refused(refuse(10));
             }
             if pairs.len() / 2 < n {
-                return Listed::Refused(Refusal {
-                    number: 17,
-                    zone: 0,
-                });
+                return Listed::Refused(refuse(17));
             }
-            let at = write_zones(map, g, id, start, zones, pairs, 0);
-            write_zones(map, g, id, 0, start, pairs, at);
+            let at = write_held(map, g, id, start, zones, pairs, 0);
+            write_held(map, g, id, 0, start, pairs, at);
             Listed::Pairs(n)
         }
     }
 }
 
 // How many fragments a holder has on an accepted map; holder 0 is free space.
-pub fn count_zones(map: &[u8], g: Geometry, holder: u32) -> usize
+pub fn count_held(map: &[u8], g: Geometry, holder: u32) -> usize
     requires { ⌜ AcceptedMap (now map) g ⌝ }
     ensures { λ r. ⌜ r ≡ length (heldFrom g holder (now (map .entry)) 0 (g .zones)) ⌝ }
 {
@@ -101,7 +93,7 @@ pub fn count_zones(map: &[u8], g: Geometry, holder: u32) -> usize
 }
 
 // Writes the pairs of a holder's fragments in zones `from` to `to`, ascending, from entry `at` on; answers the entry after them.
-pub fn write_zones(
+pub fn write_held(
     map: &[u8],
     g: Geometry,
     holder: u32,

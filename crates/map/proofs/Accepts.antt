@@ -1,83 +1,148 @@
--- An accepted map: its record, its length and its zones hold, and a walk over the zones finds each one read. The answer is
--- taken apart test by test, since a refusal is no acceptance.
-use mathlib.Core.Path.{_≡_, refl, sym, ap, _∙_, subst}
+-- An accepted map: its record, its length and its zones hold, and each zone in turn is read, with the entries that the check read.
+-- The answer is taken apart test by test, since a refusal is no acceptance.
+use mathlib.Core.Path.{_≡_, refl, sym, ap, _∙_, subst, subst⁻¹}
 use mathlib.Core.Bool.{Bool, true, false, cond}
-use mathlib.Core.List.{List, [], _∷_}
+use mathlib.Core.List.{List, [], _∷_, cons≢nil}
 use mathlib.Core.Option.{Option, none, some}
-use Prim.Native.Nat.{ℕ, suc, _+_, _*_, _<_, _≤_}
+use Prim.Native.Nat.{ℕ, zero, suc, _+_, _*_, _<_, _≤_}
 use native.Mathlib.Omega.{arith}
-use lib.Dec.{eqb, ltb}
-use lib.ListN.{length}
-use borrow.Author.Tests.{eqb-true}
+use lib.Dec.{eqb, ltb, leb}
+use lib.ListN.{length, getD}
+use borrow.Author.Tests.{eqb-true, ltb-true, ltb-false}
+use Rattle.bits.proofs.Tests.{by-test}
 use Rattle.geometry.specs.declared.Geometry.{Geometry}
 use Rattle.geometry.specs.Record.{discRecord, geometryOf}
 use Rattle.geometry.specs.Ranges.{recordFits}
 use Rattle.geometry.proofs.Numbers.{test-gives-accepted}
 use Rattle.model.specs.Chain.{Entry}
 use Rattle.model.specs.Blocks.{blockAt}
-use Rattle.model.specs.Check.{ZoneRead, fault, sound, zoneRead, MapRead, refused, entries, joinZone, zonesRead, differing, crossSum, afterChecks, blocksRead, blocksOf, lengthFits, mapRead}
+use Rattle.model.specs.Rules.{zoneBlock}
+use Rattle.model.specs.Answer.{Answer, refused, answered, unless}
+use Rattle.model.specs.Check.{zoneRead, joinZone, zonesRead, differing, crossSum, afterChecks, blocksRead, blocksOf, lengthFits, mapRead}
 use Rattle.map.specs.Checked.{checkAnswer, checked}
 use Rattle.map.specs.Accepted.{AcceptedMap}
 use Rattle.map.specs.declared.Checked.the-variants.{Accepted}
 use Rattle.model.proofs.ByPlace.{restFrom, rest-cons, rest-none, rest-all}
+use Rattle.zone.specs.Lines.{entriesIn, IsRead}
+use Rattle.zone.proofs.EntriesRead.{is-read}
 
-refused-entries : {n i : ℕ} {ess : List (List Entry)} → refused n i ≡ entries ess → ⊥
-refused-entries e = let x : _≡_ {A = ℕ} 0 1 = cc in omega arith
+pub not-answered : {n i : ℕ} {ess : List (List Entry)} → refused n i ≡ answered ess → ⊥
+not-answered e = let x : _≡_ {A = ℕ} 0 1 = cc in omega arith
 
-answer-parts : (g k : Geometry) (r : MapRead) → checkAnswer g r ≡ Accepted k → (ess : List (List Entry)) × (r ≡ entries ess) × (g ≡ k)
+answer-parts : (g k : Geometry) (r : Answer (List (List Entry))) → checkAnswer g r ≡ Accepted k → (ess : List (List Entry)) × (r ≡ answered ess) × (g ≡ k)
 answer-parts g k (refused n i) e = let x : _≡_ {A = ℕ} 0 1 = cc in absurd (omega arith)
-answer-parts g k (entries ess) e = (ess, refl, cc)
+answer-parts g k (answered ess) e = (ess, refl, cc)
 
-blocks-parts : (g : Geometry) (bs : List (List ℕ)) (ess : List (List Entry)) → blocksRead g bs ≡ entries ess → zonesRead g 0 bs ≡ entries ess
+blocks-parts : (g : Geometry) (bs : List (List ℕ)) (ess : List (List Entry)) → blocksRead g bs ≡ answered ess → zonesRead g 0 bs ≡ answered ess
 blocks-parts g bs ess e = go (differing 0 bs) (eqb (crossSum bs) 255) e
   where
-    go : (o : Option ℕ) (b : Bool) → afterChecks o (cond b (zonesRead g 0 bs) (refused 4 0)) ≡ entries ess → zonesRead g 0 bs ≡ entries ess
+    go : (o : Option ℕ) (b : Bool) → afterChecks o (cond b (zonesRead g 0 bs) (refused 4 0)) ≡ answered ess → zonesRead g 0 bs ≡ answered ess
     go none true e = e
-    go none false e = absurd (refused-entries e)
-    go (some z) b e = absurd (refused-entries e)
+    go none false e = absurd (not-answered e)
+    go (some z) b e = absurd (not-answered e)
 
-map-parts : (m : List ℕ) (ess : List (List Entry)) → mapRead m ≡ entries ess
-    → (recordFits (discRecord m) ≡ true) × (length m ≡ (geometryOf m) .zones * (geometryOf m) .sector) × (zonesRead (geometryOf m) 0 (blocksOf (geometryOf m) m) ≡ entries ess)
-map-parts m ess e = go (ltb (length m) 64) (recordFits (discRecord m)) (lengthFits (geometryOf m) m) refl refl e
+map-parts : (m : List ℕ) (ess : List (List Entry)) → mapRead m ≡ answered ess
+    → (recordFits (discRecord m) ≡ true) × (length m ≡ (geometryOf m) .zones * (geometryOf m) .sector) × (zonesRead (geometryOf m) 0 (blocksOf (geometryOf m) m) ≡ answered ess)
+map-parts m ess e = go (leb 64 (length m)) (recordFits (discRecord m)) (lengthFits (geometryOf m) m) refl refl e
   where
     go : (b1 b2 b3 : Bool) → recordFits (discRecord m) ≡ b2 → lengthFits (geometryOf m) m ≡ b3
-        → cond b1 (refused 1 0) (cond b2 (cond b3 (blocksRead (geometryOf m) (blocksOf (geometryOf m) m)) (refused 1 0)) (refused 2 0)) ≡ entries ess
-        → (recordFits (discRecord m) ≡ true) × (length m ≡ (geometryOf m) .zones * (geometryOf m) .sector) × (zonesRead (geometryOf m) 0 (blocksOf (geometryOf m) m) ≡ entries ess)
-    go true b2 b3 p q e = absurd (refused-entries e)
-    go false false b3 p q e = absurd (refused-entries e)
-    go false true false p q e = absurd (refused-entries e)
-    go false true true p q e = (p, eqb-true (length m) ((geometryOf m) .zones * (geometryOf m) .sector) q, blocks-parts (geometryOf m) (blocksOf (geometryOf m) m) ess e)
+        → unless b1 1 (unless b2 2 (unless b3 1 (blocksRead (geometryOf m) (blocksOf (geometryOf m) m)))) ≡ answered ess
+        → (recordFits (discRecord m) ≡ true) × (length m ≡ (geometryOf m) .zones * (geometryOf m) .sector) × (zonesRead (geometryOf m) 0 (blocksOf (geometryOf m) m) ≡ answered ess)
+    go false b2 b3 p q e = absurd (not-answered e)
+    go true false b3 p q e = absurd (not-answered e)
+    go true true false p q e = absurd (not-answered e)
+    go true true true p q e = (p, eqb-true (length m) ((geometryOf m) .zones * (geometryOf m) .sector) q, blocks-parts (geometryOf m) (blocksOf (geometryOf m) m) ess e)
+
+-- the zones walked: each is read, and what is left of the map's entries are those of the zones to come
+join-parts : (r : Answer (List Entry)) (q : Answer (List (List Entry))) (ess : List (List Entry)) → joinZone r q ≡ answered ess
+    → (es : List Entry) × (fss : List (List Entry)) × (ess ≡ es ∷ fss) × (r ≡ answered es) × (q ≡ answered fss)
+join-parts (refused n i) q ess e = absurd (not-answered e)
+join-parts (answered es) (refused n i) ess e = absurd (not-answered e)
+join-parts (answered es) (answered fss) ess e = (es, fss, cc, refl, refl)
+
+module _ (m : List ℕ) (g : Geometry) where
+  abbrev ReadFrom : ℕ → List (List Entry) → Type 0
+  ReadFrom z ess = zonesRead g z (restFrom m (g .zones) (g .sector) z) ≡ answered ess
+
+  from-start : (ess : List (List Entry)) → zonesRead g 0 (blocksOf g m) ≡ answered ess → ReadFrom 0 ess
+  from-start ess e = ap (zonesRead g 0) (rest-all m (g .zones) (g .sector)) ∙ e
+
+  from-turn : (z : ℕ) → z < g .zones → (ess : List (List Entry)) → ReadFrom z ess
+      → (es : List Entry) × (fss : List (List Entry)) × (ess ≡ es ∷ fss) × (zoneRead g z (blockAt (g .sector) z m) ≡ answered es) × ReadFrom (z + 1) fss
+  from-turn z h ess f =
+      let s : suc z ≡ z + 1 = omega arith in
+      let t = join-parts (zoneRead g z (blockAt (g .sector) z m)) (zonesRead g (suc z) (restFrom m (g .zones) (g .sector) (z + 1))) ess
+      (sym (ap (zonesRead g z) (rest-cons m (g .zones) (g .sector) z h)) ∙ f) in
+      (t .0, t .1, t .2, t .3, subst (λ (i : ℕ). zonesRead g i (restFrom m (g .zones) (g .sector) (z + 1)) ≡ answered (t .1)) s (t .4))
+
+  from-end : (z : ℕ) → g .zones ≤ z → (ess : List (List Entry)) → ReadFrom z ess → ess ≡ []
+  from-end z h ess f =
+      let k : answered [] ≡ answered ess = sym (ap (zonesRead g z) (rest-none m (g .zones) (g .sector) z h)) ∙ f in
+      cc
+
+-- the entries of the zones from z on, one zone after another
+abbrev pub ReadInTurn : List ℕ → Geometry → ℕ → List (List Entry) → Type 0
+ReadInTurn m g z [] = z ≡ g .zones
+ReadInTurn m g z (es ∷ ess) = (z < g .zones) × (zoneRead g z (zoneBlock g m z) ≡ answered es) × ReadInTurn m g (suc z) ess
+
+-- the zones from z on, one after another
+module _ (m : List ℕ) (g : Geometry) where
+  in-turn : (z : ℕ) (ess : List (List Entry)) → z ≤ g .zones → ReadFrom m g z ess → ReadInTurn m g z ess
+  in-turn z [] h r =
+      by-test (ltb z (g .zones))
+      (λ t. absurd (cons≢nil (sym (from-turn m g z (ltb-true z (g .zones) t) [] r .2))))
+      (λ t. omega (arith, ltb-false))
+  in-turn z (es ∷ ess) h r =
+      by-test (ltb z (g .zones))
+      (λ t. let l = ltb-true z (g .zones) t in
+      let p = from-turn m g z l (es ∷ ess) r in
+      let e1 : p .0 ≡ es = cc (p .2) in
+      let e2 : p .1 ≡ ess = cc (p .2) in
+      let f : z + 1 ≡ suc z = omega arith in
+      (l, p .3 ∙ ap answered e1, in-turn (suc z) ess l (subst (λ (i : ℕ). ReadFrom m g i ess) f (subst (λ (r : List (List Entry)). ReadFrom m g (z + 1) r) e2 (p .4)))))
+      (λ t. absurd (cons≢nil (from-end m g z (ltb-false z (g .zones) t) (es ∷ ess) r)))
+
+  read-at : (z : ℕ) (ess : List (List Entry)) → ReadInTurn m g z ess → (i : ℕ) → z ≤ i → i < g .zones → IsRead g i (zoneBlock g m i)
+  read-at z [] r i l h = absurd (omega arith)
+  read-at z (es ∷ ess) r i l h =
+      by-test (ltb z i)
+      (λ t. read-at (suc z) ess (r .2) i (ltb-true z i t) h)
+      (λ t. let e : z ≡ i = omega (arith, ltb-false) in subst (λ (x : ℕ). IsRead g x (zoneBlock g m x)) e (is-read g z (zoneBlock g m z) es (r .1) .1))
 
 pub accepts : (m : List ℕ) (g : Geometry) → checked m ≡ Accepted g → AcceptedMap m g
 accepts m g e =
     let t = answer-parts (geometryOf m) g (mapRead m) e in
     let k = map-parts m (t .0) (t .1) in
+    let turn = in-turn m (geometryOf m) 0 (t .0) (omega arith) (from-start m (geometryOf m) (t .0) (k .2)) in
     subst (λ (x : Geometry). AcceptedMap m x) (t .2)
-    (record { geometry = refl; numbers = test-gives-accepted (discRecord m) (k .0); sized = k .1; zones = t .0; read = t .1; zones-read = k .2 })
+    (record {
+      geometry = refl;
+      readable = record {
+        numbers = test-gives-accepted (discRecord m) (k .0);
+        sized = k .1;
+        reads = λ z l h. read-at m (geometryOf m) 0 (t .0) turn z l h;
+      };
+      zones = t .0;
+      read = t .1;
+    })
 
--- the zones walked: each is read, and what is left of the map's entries are those of the zones to come
-join-parts : (z : ℕ) (r : ZoneRead) (q : MapRead) (ess : List (List Entry)) → joinZone z r q ≡ entries ess
-    → (es : List Entry) × (fss : List (List Entry)) × (ess ≡ es ∷ fss) × (r ≡ sound es) × (q ≡ entries fss)
-join-parts z (fault n) q ess e = absurd (refused-entries e)
-join-parts z (sound es) (refused n i) ess e = absurd (refused-entries e)
-join-parts z (sound es) (entries fss) ess e = (es, fss, cc, refl, refl)
+module _ {m : List ℕ} {g : Geometry} (a : AcceptedMap m g) where
+  pub zones-in-turn : ReadInTurn m g 0 (a .zones)
+  zones-in-turn =
+      let f = a .geometry in
+      let k : zonesRead g 0 (blocksOf g m) ≡ answered (a .zones) = subst⁻¹ (λ (x : Geometry). zonesRead x 0 (blocksOf x m) ≡ answered (a .zones)) f (map-parts m (a .zones) (a .read) .2) in
+      in-turn m g 0 (a .zones) (omega arith) (from-start m g (a .zones) k)
 
-module _ (m : List ℕ) (g : Geometry) where
-  abbrev pub ReadFrom : ℕ → List (List Entry) → Type 0
-  ReadFrom z ess = zonesRead g z (restFrom m (g .zones) (g .sector) z) ≡ entries ess
+  entries-from : (z : ℕ) (ess : List (List Entry)) → ReadInTurn m g z ess → (i : ℕ) → z + i < g .zones → entriesIn g (z + i) (zoneBlock g m (z + i)) ≡ getD ess i []
+  entries-from z [] r i h = absurd (omega arith)
+  entries-from z (es ∷ ess) r zero h =
+      let e : z + 0 ≡ z = omega arith in
+      ap (λ (x : ℕ). entriesIn g x (zoneBlock g m x)) e ∙ is-read g z (zoneBlock g m z) es (r .1) .0
+  entries-from z (es ∷ ess) r (suc i) h =
+      let e : z + suc i ≡ suc z + i = omega arith in
+      ap (λ (x : ℕ). entriesIn g x (zoneBlock g m x)) e ∙ entries-from (suc z) ess (r .2) i (omega arith)
 
-  pub from-start : (a : AcceptedMap m g) → ReadFrom 0 (a .zones)
-  from-start a = ap (zonesRead g 0) (rest-all m (g .zones) (g .sector)) ∙ a .zones-read
-
-  pub from-turn : (z : ℕ) → z < g .zones → (ess : List (List Entry)) → ReadFrom z ess
-      → (es : List Entry) × (fss : List (List Entry)) × (ess ≡ es ∷ fss) × (zoneRead g z (blockAt (g .sector) z m) ≡ sound es) × ReadFrom (z + 1) fss
-  from-turn z h ess f =
-      let s : suc z ≡ z + 1 = omega arith in
-      let t = join-parts z (zoneRead g z (blockAt (g .sector) z m)) (zonesRead g (suc z) (restFrom m (g .zones) (g .sector) (z + 1))) ess
-      (sym (ap (zonesRead g z) (rest-cons m (g .zones) (g .sector) z h)) ∙ f) in
-      (t .0, t .1, t .2, t .3, subst (λ (i : ℕ). zonesRead g i (restFrom m (g .zones) (g .sector) (z + 1)) ≡ entries (t .1)) s (t .4))
-
-  pub from-end : (z : ℕ) → g .zones ≤ z → (ess : List (List Entry)) → ReadFrom z ess → ess ≡ []
-  from-end z h ess f =
-      let k : entries [] ≡ entries ess = sym (ap (zonesRead g z) (rest-none m (g .zones) (g .sector) z h)) ∙ f in
-      cc
+  pub zone-entries : (z : ℕ) → z < g .zones → entriesIn g z (zoneBlock g m z) ≡ getD (a .zones) z []
+  zone-entries z h =
+      let e : z ≡ 0 + z = omega arith in
+      ap (λ (x : ℕ). entriesIn g x (zoneBlock g m x)) e ∙ entries-from 0 (a .zones) zones-in-turn z (omega arith)

@@ -8,7 +8,7 @@ use Prim.Native.Nat.{ℕ, _*_, _<_, _≤_}
 use native.Mathlib.Omega.{arith}
 use lib.Dec.{eqb}
 use lib.ListN.{length}
-use borrow.Author.Tests.{lt-ltb, le-ltb, eq-eqb, ne-eqb}
+use borrow.Author.Tests.{lt-leb, le-leb, eq-eqb, ne-eqb}
 use Rattle.geometry.specs.declared.Geometry.{Geometry}
 use Rattle.geometry.specs.declared.Refusal.{Refusal}
 use Rattle.geometry.specs.declared.RecordRead.the-variants as read
@@ -16,15 +16,17 @@ use Rattle.geometry.specs.Record.{discRecord, geometryOf}
 use Rattle.geometry.specs.Ranges.{recordFits}
 use Rattle.geometry.specs.Answers.{refusal, recordOf}
 use Rattle.geometry.proofs.RecordAnswers.{accepted-says, refused-says}
-use Rattle.model.specs.Check.{MapRead, refused, entries, zonesRead, differing, crossSum, afterChecks, blocksRead, blocksOf}
+use Rattle.model.specs.Chain.{Entry}
+use Rattle.model.specs.Answer.{Answer, refused, answered}
+use Rattle.model.specs.Check.{zonesRead, differing, crossSum, afterChecks, blocksRead, blocksOf}
 use Rattle.map.specs.Checked.{checkAnswer, checked, firstDiffering}
 use Rattle.map.specs.declared.Checked.the-variants.{Accepted, Refused}
 use Rattle.map.specs.declared.FirstDiffering.the-variants as first
 
 -- a map that the check refuses was read so
-pub read-refused : (g : Geometry) (q : MapRead) (r : Refusal) → checkAnswer g q ≡ Refused r → q ≡ refused (r .number) (r .zone)
+pub read-refused : (g : Geometry) (q : Answer (List (List Entry))) (r : Refusal) → checkAnswer g q ≡ Refused r → q ≡ refused (r .number) (r .zone)
 read-refused g (refused n z) r e = let k : refusal n z ≡ r = cc in ap (λ (x : Refusal). refused (x .number) (x .zone)) k
-read-refused g (entries ess) r e = let x : _≡_ {A = ℕ} 0 1 = cc in absurd (omega arith)
+read-refused g (answered ess) r e = let x : _≡_ {A = ℕ} 0 1 = cc in absurd (omega arith)
 
 -- the record and the length
 module _ (m : List ℕ) where
@@ -32,15 +34,15 @@ module _ (m : List ℕ) where
   record-refused r e = go (refused-says m r e)
     where
       go : ((r ≡ refusal 1 0) × (length m < 64)) ⊎ ((r ≡ refusal 2 0) × (64 ≤ length m) × (recordFits (discRecord m) ≡ false)) → Refused r ≡ checked m
-      go (inl w) = ap Refused (w .0) ∙ rw (lt-ltb (length m) 64 (w .1))
-      go (inr w) = ap Refused (w .0) ∙ rw (le-ltb (length m) 64 (w .1), w .2)
+      go (inl w) = ap Refused (w .0) ∙ rw (lt-leb 64 (length m) (w .1))
+      go (inr w) = ap Refused (w .0) ∙ rw (le-leb 64 (length m) (w .1), w .2)
 
   module _ (g : Geometry) (e : recordOf m ≡ read.Accepted g) where
     pub length-refused : (length m ≡ g .zones * g .sector → ⊥) → Refused (refusal 1 0) ≡ checked m
     length-refused n =
         let a = accepted-says m g e in
         rw (
-          le-ltb (length m) 64 (a .0),
+          le-leb 64 (length m) (a .0),
           a .1,
           ne-eqb (length m) ((geometryOf m) .zones * (geometryOf m) .sector) (λ k. n (k ∙ ap (λ (x : Geometry). x .zones * x .sector) (sym (a .2)))),
         )
@@ -49,7 +51,7 @@ module _ (m : List ℕ) where
     blocks-answer n =
         let a = accepted-says m g e in
         ap (λ (x : Geometry). checkAnswer x (blocksRead x (blocksOf x m))) (a .2)
-        ∙ rw (le-ltb (length m) 64 (a .0), a .1, eq-eqb (length m) ((geometryOf m) .zones * (geometryOf m) .sector) (n ∙ ap (λ (x : Geometry). x .zones * x .sector) (a .2)))
+        ∙ rw (le-leb 64 (length m) (a .0), a .1, eq-eqb (length m) ((geometryOf m) .zones * (geometryOf m) .sector) (n ∙ ap (λ (x : Geometry). x .zones * x .sector) (a .2)))
 
 -- the zone checks, and the cross checks after them
 module _ (g : Geometry) (bs : List (List ℕ)) where

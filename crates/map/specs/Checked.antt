@@ -5,15 +5,17 @@ use Prim.Native.Nat.{ℕ}
 use Rattle.geometry.specs.declared.Geometry.{Geometry}
 use Rattle.geometry.specs.Record.{geometryOf}
 use Rattle.geometry.specs.Answers.{refusal}
-use Rattle.model.specs.Check.{MapRead, refused, entries, mapRead}
+use Rattle.model.specs.Chain.{Entry}
+use Rattle.model.specs.Answer.{Answer, refused, answered}
+use Rattle.model.specs.Check.{mapRead}
 use Rattle.map.specs.declared.Checked.{Checked}
 use Rattle.map.specs.declared.Checked.the-variants.{Accepted, Refused}
 use Rattle.map.specs.declared.FirstDiffering.{FirstDiffering}
 use Rattle.map.specs.declared.FirstDiffering.the-variants as first
 
-abbrev pub checkAnswer : Geometry → MapRead → Checked
+abbrev pub checkAnswer : Geometry → Answer (List (List Entry)) → Checked
 checkAnswer g (refused n z) = Refused (refusal n z)
-checkAnswer g (entries ess) = Accepted g
+checkAnswer g (answered ess) = Accepted g
 
 abbrev pub checked : List ℕ → Checked
 checked m = checkAnswer (geometryOf m) (mapRead m)

@@ -24,11 +24,25 @@ cut-within : (n k x z : ℕ) (rest : List Bool) (fs : List Fragment) → x < 2 ^
 cut-within n zero x z rest fs h e = cut-tail n z rest fs e ∙ same-frag fs (omega arith) (omega arith)
 cut-within n (suc k) x z rest fs h e = simp (cut-within n k (x / 2) z rest fs (omega arith) e) (same-frag fs (bit-half x) (omega arith))
 
+-- one fragment and what follows it
+pub cut-some : (n : ℕ) (f : Fragment) (rest : List Bool) (fs : List Fragment) → Formed (suc n) (f ∷ []) → cut n edge rest ≡ some fs
+    → cut n edge (numberBits (suc n) (f .id) ++ closed (f .len - suc (suc n)) rest) ≡ some (f ∷ fs)
+cut-some n f rest fs h e = simp (cut-within n n (f .id / 2) (f .len - suc (suc n)) rest fs (omega arith) e) (same-frag fs (bit-half (f .id)) (omega arith))
+
+tail-none : (n z : ℕ) (rest : List Bool) → cut n edge rest ≡ none → cut n (within 0) (closed z rest) ≡ none
+tail-none n zero rest e = simp e
+tail-none n (suc z) rest e = simp (tail-none n z rest e)
+
+within-none : (n k x z : ℕ) (rest : List Bool) → cut n edge rest ≡ none → cut n (within k) (numberBits k x ++ closed z rest) ≡ none
+within-none n zero x z rest e = tail-none n z rest e
+within-none n (suc k) x z rest e = simp (within-none n k (x / 2) z rest e)
+
+pub cut-none : (n : ℕ) (f : Fragment) (rest : List Bool) → cut n edge rest ≡ none → cut n edge (numberBits (suc n) (f .id) ++ closed (f .len - suc (suc n)) rest) ≡ none
+cut-none n f rest e = simp (within-none n n (f .id / 2) (f .len - suc (suc n)) rest e)
+
 pub cut-written : (n : ℕ) (fs : List Fragment) → Formed (suc n) fs → cut n edge (fragmentBits (suc n) fs) ≡ some fs
 cut-written n [] h = refl
-cut-written n (f ∷ fs) h =
-    simp (cut-within n n (f .id / 2) (f .len - suc (suc n)) (fragmentBits (suc n) fs) fs (omega arith) (cut-written n fs (h .2)))
-    (same-frag fs (bit-half (f .id)) (omega arith))
+cut-written n (f ∷ fs) h = cut-some n f (fragmentBits (suc n) fs) fs (h .0, h .1, tt) (cut-written n fs (h .2))
 
 -- and back: what was read is what is written
 abbrev Back : ℕ → Standing → List Bool → List Fragment → Type 0

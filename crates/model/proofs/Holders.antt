@@ -1,6 +1,6 @@
 -- A test of every entry of a zone, said of its fragments: those on the chain pass it as free, all others as owned by
 -- their id. One law for every test; the owner rules are three uses of it.
-use mathlib.Core.Path.{_≡_, refl, sym, subst, subst⁻¹}
+use mathlib.Core.Path.{_≡_, refl, subst, subst⁻¹}
 use mathlib.Core.Bool.{Bool, true}
 use mathlib.Core.List.{List, [], _∷_}
 use mathlib.Core.Option.{some}
@@ -12,7 +12,7 @@ use Rattle.model.specs.Fragments.{Fragment}
 use Rattle.model.specs.Chain.{free, owned, Entry, entry, onward, StartsAt, here, later, OnChain, first, follow}
 use Rattle.model.specs.Check.{every}
 use Rattle.model.proofs.Followed.{Long, Followed, was-free, was-owned, followed, none-left}
-use Rattle.model.proofs.Landing.{starts-from, none-starts, not-back, up-free, down-free, up-owned, down-owned}
+use Rattle.model.proofs.Landing.{starts-from, none-starts, up-free, down-free, up-owned, down-owned, first-off}
 
 -- a fragment at its place passes the test, as what the chain makes of it
 pub record Passes (t : Entry → Bool) (at next : ℕ) (fs : List Fragment) (a : ℕ) (h : Fragment) : Type 0 where
@@ -61,9 +61,6 @@ module _ (t : Entry → Bool) where
     first-on : OnChain at at (f ∷ fs) at
     first-on = first (λ e. omega arith)
 
-    pub first-off : (next : ℕ) → (at ≡ next → ⊥) → OnChain at next (f ∷ fs) at → ⊥
-    first-off next n c = not-back at f fs l next at (λ _ e. n (sym e)) (down-owned at f fs l next n at c) refl
-
   pub every-passes : (at next : ℕ) (fs : List Fragment) (es : List Entry) → 0 < at → Long fs → follow at next fs ≡ some es → every t es ≡ true → EachPasses t at next fs
   every-passes at next [] es p l e v = λ a h s. absurd (none-starts s)
   every-passes at next (f ∷ fs) es p l e v = go es (followed at next f fs es e) v (λ n gs k w. every-passes (at + f .len) n fs gs (omega arith) (l .1) k w)
@@ -83,7 +80,7 @@ module _ (t : Entry → Bool) where
           (λ a h s. way a h s (w .0) (ih next gs k (w .1)))
         where
           way : (a : ℕ) (h : Fragment) → StartsAt at (f ∷ fs) a h → t (entry at f (owned (f .id))) ≡ true → EachPasses t (at + f .len) next fs → Passes t at next (f ∷ fs) a h
-          way _ _ here w r = record { as-free = λ c. absurd (first-off at f fs p (l .0) next q c); as-owned = λ n. w }
+          way _ _ here w r = record { as-free = λ c. absurd (first-off at f fs (l .0) next q c); as-owned = λ n. w }
           way a h (later s) w r = rest-owned at f fs p (l .0) next q a h (r a h s)
 
   pub passes-every : (at next : ℕ) (fs : List Fragment) (es : List Entry) → 0 < at → Long fs → follow at next fs ≡ some es → EachPasses t at next fs → every t es ≡ true
@@ -98,5 +95,5 @@ module _ (t : Entry → Bool) where
           and-true (t (entry at f free)) (every t gs) ((v2 at f here) .as-free (first-on at f fs p (l .0)))
           (ih (onward at (f .id)) gs k (λ a h s. free-rest at f fs p (l .0) a h s (v2 a h (later s))))
       go es (was-owned gs q k) ih =
-          and-true (t (entry at f (owned (f .id)))) (every t gs) ((v at f here) .as-owned (first-off at f fs p (l .0) next q))
+          and-true (t (entry at f (owned (f .id)))) (every t gs) ((v at f here) .as-owned (first-off at f fs (l .0) next q))
           (ih next gs k (λ a h s. owned-rest at f fs p (l .0) next q a h (v a h (later s))))

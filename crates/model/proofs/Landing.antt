@@ -78,6 +78,9 @@ module _ (at : ℕ) (f : Fragment) (fs : List Fragment) (l : 0 < f .len) where
         go here c z = absurd (not-back next at (λ _ e. n (sym e)) c refl)
         go (later s) c z = further c s z
 
+    pub first-off : OnChain at next (f ∷ fs) at → ⊥
+    first-off c = not-back next at (λ _ e. n (sym e)) (down-owned at c) refl
+
 -- a chain that was followed lands
 pub follow-lands : (at next : ℕ) (fs : List Fragment) (es : List Entry) → 0 < at → Long fs → follow at next fs ≡ some es → LinksLand at next fs
 follow-lands at next [] es p l e = λ a c. absurd (go a c)

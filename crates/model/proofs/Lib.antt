@@ -6,9 +6,12 @@ pub mod ZoneDrawn
 pub mod Landing
 pub mod Holders
 pub mod Owners
+pub mod ReadThere
 pub mod ZoneJudged
+pub mod SixCases
 pub mod ByPlace
 pub mod BlocksJudged
 pub mod MapJudged
+pub mod LinesJudged
 pub mod ZoneTests
 pub mod Lists

@@ -20,8 +20,8 @@ use Rattle.model.specs.Blocks.{linkIn}
 use Rattle.model.specs.Rules.{Free, OwnerRule}
 use Rattle.model.specs.Check.{every, idFits, endFits, firstOwned, ownersFit}
 use Rattle.model.proofs.Followed.{Long, Followed, was-free, was-owned, followed, none-left}
-use Rattle.model.proofs.Landing.{starts-from, none-starts}
-use Rattle.model.proofs.Holders.{every-passes, passes-every, first-off}
+use Rattle.model.proofs.Landing.{starts-from, none-starts, first-off}
+use Rattle.model.proofs.Holders.{every-passes, passes-every}
 
 module _ (g : Geometry) (ok : AcceptedGeometry g) (z : ℕ) (b : List ℕ) (fs : List Fragment) (es : List Entry)
     (l : Long fs) (e : follow (firstBit z) (onward 8 (linkIn b)) fs ≡ some es) where
@@ -85,7 +85,7 @@ first-holds at next (f ∷ fs) es p l e t = go es (followed at next f fs es e) t
   where
     go : (es : List Entry) → Followed at next f fs es → firstOwned 2 es ≡ true → (h : Fragment) × StartsAt at (f ∷ fs) at h × (OnChain at next (f ∷ fs) at → ⊥) × (h .id ≡ 2)
     go es (was-free gs q k) t = absurd (false≢true t)
-    go es (was-owned gs q k) t = (f, here, first-off (λ (e : Entry). true) at f fs p (l .0) next q, eqb-true (f .id) 2 t)
+    go es (was-owned gs q k) t = (f, here, first-off at f fs (l .0) next q, eqb-true (f .id) 2 t)
 
 first-fits : (at next : ℕ) (fs : List Fragment) (es : List Entry) → 0 < at → Long fs → follow at next fs ≡ some es
     → (f : Fragment) → StartsAt at fs at f → (OnChain at next fs at → ⊥) → f .id ≡ 2 → firstOwned 2 es ≡ true

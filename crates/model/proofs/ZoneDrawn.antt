@@ -13,12 +13,11 @@ use lib.Pow.{pow-pos}
 use lib.ListN.{length, length-append, length-replicate}
 use Rattle.bits.proofs.Digits.{length-number}
 use Rattle.bits.proofs.Tests.{by-test}
-use Rattle.model.specs.Fragments.{Fragment, fragmentBits, Formed}
+use Rattle.model.specs.Fragments.{Fragment, fragmentBits, Formed, edge, cut}
 use Rattle.model.specs.Chain.{Entry, onward, noneTouch}
 use Rattle.model.specs.Pieces.{Piece, ownedOf}
 use Rattle.model.specs.Drawing.{GapRoom, Drawable, draw, linkOf, followAll, readBits, firstFree, gap, drawnFragments, gapEntry, drawnEntries}
 use Rattle.model.proofs.Options.{none-some}
-use Rattle.model.specs.Fragments.{edge, cut}
 use Rattle.model.proofs.FragmentsRead.{cut-written, written-cut}
 use Rattle.model.proofs.Followed.{Long, total}
 use Rattle.model.proofs.ChainDrawn.{Lies, follow-drawn, drawn-follow, linked, free-or-ahead, link-back, follow-lies}

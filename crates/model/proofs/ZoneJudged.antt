@@ -1,4 +1,4 @@
--- A zone judged: the walk accepts it exactly when its rules hold, and refuses it with n exactly when n is the first of 6, 5,
+-- A zone judged: it is read exactly when its rules hold, as what stands there, and refused with n exactly when n is the first of 6, 5,
 -- 7 that applies.
 use mathlib.Core.Path.{_≡_, refl, sym, ap, _∙_, subst, subst⁻¹}
 use mathlib.Core.Bool.{Bool, true, false, cond, false≢true}
@@ -16,8 +16,9 @@ use Rattle.geometry.proofs.DiscBits.{first-low}
 use Rattle.model.specs.Fragments.{Fragment, fragmentBits, Formed, InClusters, edge, cut, fragmentsIn}
 use Rattle.model.specs.Chain.{Entry, onward, follow}
 use Rattle.model.specs.Blocks.{freeLink, linkIn, allocBits}
-use Rattle.model.specs.Rules.{FragmentRule, ChainRule, OwnerRule, ZoneRules}
-use Rattle.model.specs.Check.{ZoneRead, fault, sound, inClusters, ownersFit, afterFollow, afterCut, zoneRead}
+use Rattle.model.specs.Rules.{FragmentRule, ChainRule, OwnerRule, ZoneRules, Free, EntriesOf, ReadAs}
+use Rattle.model.specs.Answer.{Answer, refused, answered}
+use Rattle.model.specs.Check.{inClusters, ownersFit, afterFollow, afterCut, zoneRead}
 use Rattle.model.specs.Table.{ZoneFault, six, five, seven}
 use Rattle.model.proofs.Options.{none-some, some-some}
 use Rattle.model.proofs.FragmentsRead.{cut-written, written-cut}
@@ -25,6 +26,7 @@ use Rattle.model.proofs.Followed.{Long}
 use Rattle.model.proofs.ZoneDrawn.{long-fit}
 use Rattle.model.proofs.Landing.{follow-lands, lands-follow}
 use Rattle.model.proofs.Owners.{owners-hold, owners-fit}
+use Rattle.model.proofs.ReadThere.{read-there, entries-same}
 
 clusters-hold : (k : ℕ) (fs : List Fragment) → inClusters k fs ≡ true → InClusters k fs
 clusters-hold k [] t = tt
@@ -35,9 +37,9 @@ clusters-fit k [] w = refl
 clusters-fit k (f ∷ fs) w = and-true (eqb (f .len % k) 0) (inClusters k fs) (eq-eqb (f .len % k) 0 (w .0)) (clusters-fit k fs (w .1))
 
 -- what a zone read says
-pub data ZoneSays (g : Geometry) (z : ℕ) (b : List ℕ) : ZoneRead → Type 0 where
-  kept : (es : List Entry) → ZoneRules g z b → ZoneSays g z b (sound es)
-  broken : (n : ℕ) → ZoneFault g z b n → ZoneSays g z b (fault n)
+pub data ZoneSays (g : Geometry) (z : ℕ) (b : List ℕ) : Answer (List Entry) → Type 0 where
+  kept : (es : List Entry) → ReadAs g z b es → ZoneSays g z b (answered es)
+  broken : (n : ℕ) → ZoneFault g z b n → ZoneSays g z b (refused n z)
 
 module _ (g : Geometry) (ok : AcceptedGeometry g) (z : ℕ) (b : List ℕ) where
   abbrev bits : List Bool
@@ -70,9 +72,12 @@ module _ (g : Geometry) (ok : AcceptedGeometry g) (z : ℕ) (b : List ℕ) where
 
   -- the walk's answer, test by test
   after-owners : (fs : List Fragment) (es : List Entry) → FragmentRule g z b fs → ChainRule z b fs → follow (firstBit z) (onward 8 (linkIn b)) fs ≡ some es
-      → (t : Bool) → ownersFit g z es ≡ t → ZoneSays g z b (cond t (sound es) (fault 7))
+      → (t : Bool) → ownersFit g z es ≡ t → ZoneSays g z b (cond t (answered es) (refused 7 z))
   after-owners fs es r c e true t =
-      kept es (record { fragments = fs; fragment-rule = r; chain-rule = c; owner-rule = owners-hold g ok z b fs es (fragments-long fs r) e t })
+      kept es (record {
+        rules = record { fragments = fs; fragment-rule = r; chain-rule = c; owner-rule = owners-hold g ok z b fs es (fragments-long fs r) e t };
+        entries = read-there (firstBit z) (onward 8 (linkIn b)) fs es some-place (fragments-long fs r) e;
+      })
   after-owners fs es r c e false t = broken 7 (seven fs r c (λ w. false≢true (sym t ∙ owners-fit g ok z b fs es (fragments-long fs r) e w)))
 
   after-chain : (fs : List Fragment) → FragmentRule g z b fs → 32768 ≤ freeLink b → (r : Option (List Entry)) → follow (firstBit z) (onward 8 (linkIn b)) fs ≡ r → ZoneSays g z b (afterFollow g z r)
@@ -82,12 +87,12 @@ module _ (g : Geometry) (ok : AcceptedGeometry g) (z : ℕ) (b : List ℕ) where
       after-owners fs es r (record { top-bit = h; land = follow-lands (firstBit z) (onward 8 (linkIn b)) fs es some-place (fragments-long fs r) e }) e (ownersFit g z es) refl
 
   after-top : (fs : List Fragment) → FragmentRule g z b fs → (t : Bool) → leb 32768 (freeLink b) ≡ t
-      → ZoneSays g z b (cond t (afterFollow g z (follow (firstBit z) (onward 8 (linkIn b)) fs)) (fault 5))
+      → ZoneSays g z b (cond t (afterFollow g z (follow (firstBit z) (onward 8 (linkIn b)) fs)) (refused 5 z))
   after-top fs r true t = after-chain fs r (leb-true 32768 (freeLink b) t) (follow (firstBit z) (onward 8 (linkIn b)) fs) refl
   after-top fs r false t = broken 5 (five fs r (λ c. false≢true (sym t ∙ le-leb 32768 (freeLink b) (c .top-bit))))
 
   after-clusters : (fs : List Fragment) → fragmentsIn (g .idlen) bits ≡ some fs → (t : Bool) → inClusters (g .cluster) fs ≡ t
-      → ZoneSays g z b (cond t (cond (leb 32768 (freeLink b)) (afterFollow g z (follow (firstBit z) (onward 8 (linkIn b)) fs)) (fault 5)) (fault 6))
+      → ZoneSays g z b (cond t (cond (leb 32768 (freeLink b)) (afterFollow g z (follow (firstBit z) (onward 8 (linkIn b)) fs)) (refused 5 z)) (refused 6 z))
   after-clusters fs e true t = after-top fs (fragments-hold fs e t) (leb 32768 (freeLink b)) refl
   after-clusters fs e false t =
       broken 6 (six (λ gs r. let q : gs ≡ fs = some-some (sym (fragments-read gs r) ∙ e) in
@@ -117,17 +122,9 @@ module _ (g : Geometry) (ok : AcceptedGeometry g) (z : ℕ) (b : List ℕ) where
   one-fault m n (seven fs r c f) (five gs s h) = absurd (h (subst (λ (x : List Fragment). ChainRule z b x) (fragments-same fs gs r s) c))
   one-fault m n (seven fs r c f) (seven gs s d h) = refl
 
-  -- both ways
-  pub rules-read : ZoneRules g z b → (es : List Entry) × (zoneRead g z b ≡ sound es)
-  rules-read w = go (zoneRead g z b) refl zone-says
-    where
-      go : (r : ZoneRead) → zoneRead g z b ≡ r → ZoneSays g z b r → (es : List Entry) × (r ≡ sound es)
-      go r e (kept es v) = (es, refl)
-      go r e (broken n f) = absurd (no-fault n w f)
-
-  pub fault-read : (n : ℕ) → ZoneFault g z b n → zoneRead g z b ≡ fault n
-  fault-read n f = go (zoneRead g z b) zone-says
-    where
-      go : (r : ZoneRead) → ZoneSays g z b r → r ≡ fault n
-      go r (kept es v) = absurd (no-fault n v f)
-      go r (broken m h) = ap fault (one-fault m n h f)
+  -- what was read of a zone is fixed by its block
+  pub read-same : (es ds : List Entry) → ReadAs g z b es → ReadAs g z b ds → es ≡ ds
+  read-same es ds v w =
+      let fs = w .rules .fragments in
+      let q = fragments-same (v .rules .fragments) fs (v .rules .fragment-rule) (w .rules .fragment-rule) in
+      entries-same (Free z b fs) (firstBit z) fs es ds (subst (λ (x : List Fragment). EntriesOf (Free z b x) (firstBit z) x es) q (v .entries)) (w .entries)

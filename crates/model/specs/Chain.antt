@@ -4,7 +4,7 @@ use mathlib.Core.Path.{_≡_}
 use mathlib.Core.Bool.{Bool, true, false, cond, not, _&&_}
 use mathlib.Core.List.{List, [], _∷_}
 use mathlib.Core.Option.{Option, none, some}
-use Prim.Native.Nat.{ℕ, _+_, _<_, _≤_}
+use Prim.Native.Nat.{ℕ, suc, _+_, _<_, _≤_}
 use lib.Dec.{eqb}
 use Rattle.model.specs.Fragments.{Fragment}
 
@@ -78,3 +78,8 @@ isFree (owned id) = false
 abbrev pub noneTouch : Bool → List Entry → Bool
 noneTouch wasFree [] = true
 noneTouch wasFree (e ∷ es) = not (wasFree && isFree (e .holder)) && noneTouch (isFree (e .holder)) es
+
+-- the lowest zone from z on in which two do
+abbrev pub touching : ℕ → List (List Entry) → Option ℕ
+touching z [] = none
+touching z (es ∷ ess) = cond (noneTouch false es) (touching (suc z) ess) (some z)

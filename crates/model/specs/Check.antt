@@ -5,7 +5,7 @@ use mathlib.Core.Bool.{Bool, true, false, cond, not, _&&_, _||_}
 use mathlib.Core.List.{List, [], _∷_, map}
 use mathlib.Core.Option.{Option, none, some}
 use Prim.Native.Nat.{ℕ, suc, _+_, _*_, _/_, _%_}
-use lib.Dec.{eqb, ltb, leb}
+use lib.Dec.{eqb, leb}
 use lib.ListN.{length, getD}
 use Rattle.checks.specs.Words.{zoneCheck}
 use Rattle.checks.specs.Cross.{crossOf, xorSum}
@@ -13,14 +13,10 @@ use Rattle.geometry.specs.declared.Geometry.{Geometry}
 use Rattle.geometry.specs.Record.{discRecord, geometryOf}
 use Rattle.geometry.specs.Ranges.{recordFits}
 use Rattle.geometry.specs.Places.{firstBit, endBit, discBit, idFrom}
+use Rattle.model.specs.Answer.{Answer, refused, answered, unless}
 use Rattle.model.specs.Fragments.{Fragment, fragmentsIn}
 use Rattle.model.specs.Chain.{Holder, free, owned, Entry, onward, follow}
 use Rattle.model.specs.Blocks.{blocks, freeLink, linkIn, allocBits}
-
--- a zone: its entries, or the number that it is refused with
-pub data ZoneRead : Type 0 where
-  fault : ℕ → ZoneRead
-  sound : List Entry → ZoneRead
 
 -- every entry passes a test
 abbrev pub every : (Entry → Bool) → List Entry → Bool
@@ -55,34 +51,30 @@ abbrev pub ownersFit : Geometry → ℕ → List Entry → Bool
 ownersFit g z es = (every (idFits g) es && every (endFits g z) es) && (not (eqb z (g .zones / 2)) || firstOwned 2 es)
 
 -- 6, then 5, then 7
-abbrev pub afterFollow : Geometry → ℕ → Option (List Entry) → ZoneRead
-afterFollow g z none = fault 5
-afterFollow g z (some es) = cond (ownersFit g z es) (sound es) (fault 7)
+abbrev pub afterFollow : Geometry → ℕ → Option (List Entry) → Answer (List Entry)
+afterFollow g z none = refused 5 z
+afterFollow g z (some es) = cond (ownersFit g z es) (answered es) (refused 7 z)
 
-abbrev pub afterCut : Geometry → ℕ → List ℕ → Option (List Fragment) → ZoneRead
-afterCut g z b none = fault 6
+abbrev pub afterCut : Geometry → ℕ → List ℕ → Option (List Fragment) → Answer (List Entry)
+afterCut g z b none = refused 6 z
 afterCut g z b (some fs) =
     cond (inClusters (g .cluster) fs)
-    (cond (leb 32768 (freeLink b)) (afterFollow g z (follow (firstBit z) (onward 8 (linkIn b)) fs)) (fault 5))
-    (fault 6)
+    (cond (leb 32768 (freeLink b)) (afterFollow g z (follow (firstBit z) (onward 8 (linkIn b)) fs)) (refused 5 z))
+    (refused 6 z)
 
-abbrev pub zoneRead : Geometry → ℕ → List ℕ → ZoneRead
+-- a zone: its entries, or the first of these
+abbrev pub zoneRead : Geometry → ℕ → List ℕ → Answer (List Entry)
 zoneRead g z b = afterCut g z b (fragmentsIn (g .idlen) (allocBits (firstBit z) (endBit g) b))
 
--- the map: the entries of its zones, or a refusal and its zone
-pub data MapRead : Type 0 where
-  refused : ℕ → ℕ → MapRead
-  entries : List (List Entry) → MapRead
+-- zone by zone from z on: the entries of each, or the first refusal
+abbrev pub joinZone : Answer (List Entry) → Answer (List (List Entry)) → Answer (List (List Entry))
+joinZone (refused n z) r = refused n z
+joinZone (answered es) (refused n z) = refused n z
+joinZone (answered es) (answered ess) = answered (es ∷ ess)
 
--- zone by zone from z on
-abbrev pub joinZone : ℕ → ZoneRead → MapRead → MapRead
-joinZone z (fault n) r = refused n z
-joinZone z (sound es) (refused n i) = refused n i
-joinZone z (sound es) (entries ess) = entries (es ∷ ess)
-
-abbrev pub zonesRead : Geometry → ℕ → List (List ℕ) → MapRead
-zonesRead g z [] = entries []
-zonesRead g z (b ∷ bs) = joinZone z (zoneRead g z b) (zonesRead g (suc z) bs)
+abbrev pub zonesRead : Geometry → ℕ → List (List ℕ) → Answer (List (List Entry))
+zonesRead g z [] = answered []
+zonesRead g z (b ∷ bs) = joinZone (zoneRead g z b) (zonesRead g (suc z) bs)
 
 -- the first zone from z on whose check differs
 abbrev pub differing : ℕ → List (List ℕ) → Option ℕ
@@ -93,12 +85,12 @@ differing z (b ∷ bs) = cond (eqb (getD b 0 0) (zoneCheck b)) (differing (suc z
 abbrev pub crossSum : List (List ℕ) → ℕ
 crossSum bs = xorSum (map crossOf bs)
 
-abbrev pub afterChecks : Option ℕ → MapRead → MapRead
+abbrev pub afterChecks : Option ℕ → Answer (List (List Entry)) → Answer (List (List Entry))
 afterChecks none r = r
 afterChecks (some z) r = refused 3 z
 
-abbrev pub blocksRead : Geometry → List (List ℕ) → MapRead
-blocksRead g bs = afterChecks (differing 0 bs) (cond (eqb (crossSum bs) 255) (zonesRead g 0 bs) (refused 4 0))
+abbrev pub blocksRead : Geometry → List (List ℕ) → Answer (List (List Entry))
+blocksRead g bs = afterChecks (differing 0 bs) (unless (eqb (crossSum bs) 255) 4 (zonesRead g 0 bs))
 
 -- the blocks of a map with geometry g
 abbrev pub blocksOf : Geometry → List ℕ → List (List ℕ)
@@ -107,9 +99,10 @@ blocksOf g m = blocks (g .sector) (g .zones) m
 abbrev pub lengthFits : Geometry → List ℕ → Bool
 lengthFits g m = eqb (length m) (g .zones * g .sector)
 
-abbrev pub mapRead : List ℕ → MapRead
+-- the map: the entries of its zones, or a refusal and its zone
+abbrev pub mapRead : List ℕ → Answer (List (List Entry))
 mapRead m =
-    cond (ltb (length m) 64) (refused 1 0)
-    (cond (recordFits (discRecord m))
-    (cond (lengthFits (geometryOf m) m) (blocksRead (geometryOf m) (blocksOf (geometryOf m) m)) (refused 1 0))
-    (refused 2 0))
+    unless (leb 64 (length m)) 1
+    (unless (recordFits (discRecord m)) 2
+    (unless (lengthFits (geometryOf m) m) 1
+    (blocksRead (geometryOf m) (blocksOf (geometryOf m) m))))

@@ -1,8 +1,11 @@
+pub mod Answer
 pub mod Fragments
 pub mod Chain
 pub mod Blocks
 pub mod Rules
 pub mod Check
 pub mod Table
+pub mod Refusals
 pub mod Pieces
 pub mod Drawing
+pub mod Shown

@@ -3,7 +3,7 @@
 -- when they hold.
 -- Assumes nothing.
 use mathlib.Core.Path.{_≡_}
-use mathlib.Core.List.{List, map}
+use mathlib.Core.List.{List, [], _∷_, map}
 use Prim.Native.Nat.{ℕ, _+_, _*_, _/_, _<_, _≤_}
 use lib.ListN.{length, getD}
 use Rattle.checks.specs.Words.{zoneCheck}
@@ -13,7 +13,7 @@ use Rattle.geometry.specs.Record.{discRecord, geometryOf}
 use Rattle.geometry.specs.Ranges.{RecordRules}
 use Rattle.geometry.specs.Places.{firstBit, endBit, discBit}
 use Rattle.model.specs.Fragments.{Fragment, fragmentBits, Formed, InClusters}
-use Rattle.model.specs.Chain.{onward, StartsAt, OnChain, LinksLand}
+use Rattle.model.specs.Chain.{pair, Holder, free, owned, Entry, onward, StartsAt, OnChain, LinksLand}
 use Rattle.model.specs.Blocks.{blocks, blockAt, freeLink, linkIn, allocBits}
 
 -- "Fragments fill each zone's allocation bits exactly. Every length is a multiple of k." Broken: 6.
@@ -46,6 +46,22 @@ pub record ZoneRules (g : Geometry) (z : ℕ) (block : List ℕ) : Type 0 where
   pub fragment-rule : FragmentRule g z block fragments
   pub chain-rule : ChainRule z block fragments
   pub owner-rule : OwnerRule g z block fragments
+
+-- What is read of a zone is what stands there: an entry for each fragment, in order and at its place, and "Fragments on the chain are
+-- free; all others are owned by their id".
+abbrev pub HeldAs : Type 0 → Fragment → Holder → Type 0
+HeldAs OnIt f free = OnIt
+HeldAs OnIt f (owned id) = (OnIt → ⊥) × (id ≡ f .id)
+
+abbrev pub EntriesOf : (ℕ → Type 0) → ℕ → List Fragment → List Entry → Type 0
+EntriesOf OnIt at [] [] = Unit {0}
+EntriesOf OnIt at [] (e ∷ es) = ⊥
+EntriesOf OnIt at (f ∷ fs) [] = ⊥
+EntriesOf OnIt at (f ∷ fs) (e ∷ es) = (e .at ≡ pair at (f .len)) × HeldAs (OnIt at) f (e .holder) × EntriesOf OnIt (at + f .len) fs es
+
+pub record ReadAs (g : Geometry) (z : ℕ) (block : List ℕ) (es : List Entry) : Type 0 where
+  pub rules : ZoneRules g z block
+  pub entries : EntriesOf (Free z block (rules .fragments)) (firstBit z) (rules .fragments) es
 
 -- "The check is .." of every block, and "All cross check bytes together exclusive-or to 255."
 abbrev pub CheckRule : List ℕ → Type 0

@@ -10,13 +10,13 @@ use Rattle.geometry.specs.declared.Geometry.{Geometry}
 use Rattle.geometry.specs.Places.{startZone}
 use Rattle.model.specs.Pieces.{Piece, piecesOf, objectPairs, piecesOfZones}
 use Rattle.map.specs.Accepted.{AcceptedMap}
-use Rattle.listing.specs.HeldBy.{heldFrom}
+use Rattle.walk.specs.HeldBy.{heldFrom}
 use Rattle.listing.proofs.HeldZones.{held-all}
 use Rattle.listing.proofs.ObjectOrder.{in-object-order}
-use Rattle.calls.specs.Judge.{isEmpty}
-use Rattle.holes.proofs.ZonesTouching.{zones-are}
-use Rattle.holes.proofs.PairsCounted.{pairs-count}
-use Rattle.runs.specs.Editable.{piecesOn}
+use Rattle.edits.specs.Judge.{isEmpty}
+use Rattle.walk.proofs.ZonesTouching.{zones-are}
+use Rattle.edits.proofs.PairsCounted.{pairs-count}
+use Rattle.model.specs.Shown.{piecesOn}
 
 no-piece : (l : List Piece) → length l ≡ 0 → isEmpty l ≡ true
 no-piece [] h = refl

@@ -1,16 +1,5 @@
 pub mod SmallTests
-pub mod PairLists
-pub mod ZoneParts
 pub mod ListJudged
-pub mod ListCut
-pub mod WalkZones
-pub mod LinesLeft
-pub mod MergeTurns
-pub mod Turning
-pub mod ZoneJudged
-pub mod ApartZones
-pub mod ZonesJudged
-pub mod PlacedZones
-pub mod ZonesGiven
 pub mod Absent
+pub mod ZonesJudged
 pub mod Answers

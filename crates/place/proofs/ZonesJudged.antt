@@ -1,123 +1,111 @@
--- Refusal 13 over all zones, one zone at a time: what a zone's part of the list gives is what the whole list gives there, and a
--- zone without pairs is apart as it was. The zones that have pairs are counted.
-use mathlib.Core.Path.{_≡_, refl, sym, ap, ap₂, _∙_, subst}
-use mathlib.Core.Bool.{Bool, true, cond, _&&_}
+-- Refusal 13, zone by zone: the pieces after the place lie apart in all zones just where they do in each zone with pairs. In a zone
+-- without pairs they are the old ones, which do.
+use mathlib.Core.Path.{_≡_, refl, sym, ap, _∙_}
+use mathlib.Core.Bool.{true, false, _&&_}
 use mathlib.Core.List.{List, [], _∷_, map}
-use Prim.Native.Nat.{ℕ, suc, _+_, _-_, _*_, _%_, _<_, _≤_}
-use native.Mathlib.Nat.{zero-add}
+use Prim.Native.Nat.{ℕ, suc, _+_, _-_, _*_, _<_, _≤_}
 use native.Mathlib.Omega.{arith}
-use lib.Dec.{eqb, ltb}
-use lib.ListN.{length, take, drop, length-drop}
-use lib.Seq.{length-take-le}
-use borrow.Author.Tests.{lt-ltb, le-ltb, ltb-true, ltb-false}
-use Rattle.bits.proofs.Tests.{by-test, and-assoc, and-with-true}
-use Rattle.checks.specs.Cross.{touchedCount}
+use lib.Dec.{leb, ltb}
+use lib.ListN.{length, take, drop}
+use borrow.Author.Tests.{leb-true, ne-eqb, lt-ltb, le-ltb, ltb-false}
+use Rattle.bits.proofs.Tests.{by-test, both}
 use Rattle.geometry.specs.declared.Geometry.{Geometry}
-use Rattle.geometry.specs.Places.{zoneOf, zoneFrom, zoneEnd}
-use Rattle.model.specs.Chain.{Pair}
-use Rattle.model.specs.Rules.{zoneBlock}
+use Rattle.geometry.specs.Places.{zoneFrom, zoneEnd}
 use Rattle.model.specs.Pieces.{Piece}
-use Rattle.model.proofs.Lists.{length-numbers}
-use Rattle.calls.specs.Edits.{put, own, give, touches, touchedFrom, inZone}
-use Rattle.calls.specs.Holes.{apart, allApart}
-use Rattle.calls.specs.Judge.{pairsFrom}
-use Rattle.calls.proofs.Returned.{pairs-numbers}
-use Rattle.runs.proofs.ZonesTouched.{zone-give, count-next}
-use Rattle.walk.proofs.ZonesRead.{zone-reads}
-use Rattle.holes.specs.EditableMap.{EditableMap}
-use Rattle.holes.proofs.EditableMap.{map-pieces, zone-pieces}
-use Rattle.place.specs.Parts.{Rising, zonePairs, IsPart}
-use Rattle.place.specs.Merged.{ownedInZone, zoneFits}
-use Rattle.place.specs.Asked.{ZoneAsks}
-use Rattle.place.proofs.ApartZones.{owned-apart, owned-ascend}
-use Rattle.runs.specs.Editable.{piecesOn}
+use Rattle.model.specs.Rules.{zoneBlock}
+use Rattle.model.specs.Shown.{piecesOn}
+use Rattle.walk.proofs.ZonesRead.{reads-from}
+use Rattle.edits.specs.Edits.{put, own, give, inZone}
+use Rattle.edits.specs.Holes.{gapFits, apart, allApart}
+use Rattle.edits.specs.Judge.{pairsFrom}
+use Rattle.edits.proofs.ZonesTouched.{zone-give}
+use Rattle.edits.proofs.EditableMap.{map-pieces}
+use Rattle.edits.proofs.ZonesEdited.{newPieces}
+use Rattle.writer.specs.declared.Piece as code
+use Rattle.writer.specs.Parts.{zonePairs, IsPart}
+use Rattle.writer.specs.Listed.{pieceIn, pieceAt, piecesFrom}
+use Rattle.writer.specs.Edited.{ownedInZone, piecesAfter, PartAsks, editOf}
+use Rattle.writer.proofs.PieceLists.{run-first}
+use Rattle.writer.proofs.PartPairs.{zone-listed, part-pairs, part-ascends, part-fits}
+use Rattle.writer.proofs.ZonesEdited.{part-after}
+use Rattle.place.specs.Asked.{PlaceAsks, zoneFits}
 
--- a zone's listed pieces
-pub zone-listed : (g : Geometry) (z id : ℕ) (qs : List Pair) → inZone g z (map (own id) qs) ≡ map (own id) (zonePairs g z qs)
-zone-listed g z id [] = refl
-zone-listed g z id (q ∷ qs) =
-    by-test (eqb (zoneOf g (q .start)) z)
-    (λ t. simp t (ap (λ (r : List Piece). own id q ∷ r) (zone-listed g z id qs)))
-    (λ t. simp t (zone-listed g z id qs))
+pub some-id : {m : List ℕ} {g : Geometry} {id : ℕ} {list : List ℕ} → PlaceAsks m g id list → id ≡ 0 → ⊥
+some-id {m} {g} {id} q e = omega (arith, leb-true 3 id (both (leb 3 id) (ltb id (g .ids * g .zones)) (q .named) .0))
 
-touches-pairs : (g : Geometry) (z : ℕ) (qs : List Pair) → touches g z qs ≡ ltb 0 (length (zonePairs g z qs))
-touches-pairs g z [] = refl
-touches-pairs g z (q ∷ qs) =
-    by-test (eqb (zoneOf g (q .start)) z)
-    (λ t. simp t (sym (lt-ltb 0 (suc (length (zonePairs g z qs))) (omega arith))))
-    (λ t. simp (t, touches-pairs g z qs))
+-- pieces one after the other
+module _ (m to : ℕ) (pieces : List ℕ) (n : ℕ) where
+  pub apart-ends : (at i : ℕ) → n ≤ i → apart m at to (piecesFrom pieces i (n - i)) ≡ gapFits m at to
+  apart-ends at i h = let e : n - i ≡ 0 = omega arith in ap (λ (k : ℕ). apart m at to (piecesFrom pieces i k)) e
 
--- the part of zone z
-module _ {g : Geometry} {list : List ℕ} {z from to : ℕ} (p : IsPart g list z from to) where
+  module _ (at i : ℕ) (h : i < n) {x : code.Piece} (e : x ≡ pieceIn pieces i) where
+    turn : apart m at to (piecesFrom pieces i (n - i)) ≡ gapFits m at (x .start) && apart m (x .start + x .len) to (piecesFrom pieces (i + 1) (n - (i + 1)))
+    turn =
+        ap (apart m at to) (run-first (pieceAt pieces) i (i + 1) (n - i) (n - (i + 1)) (omega arith) (omega arith))
+        ∙ ap (λ (y : code.Piece). gapFits m at (y .start) && apart m (y .start + y .len) to (piecesFrom pieces (i + 1) (n - (i + 1)))) (sym e)
+
+    pub apart-fails : gapFits m at (x .start) ≡ false → apart m at to (piecesFrom pieces i (n - i)) ≡ false
+    apart-fails t = rw t at turn
+
+    pub apart-goes-on : gapFits m at (x .start) ≡ true → apart m at to (piecesFrom pieces i (n - i)) ≡ apart m (x .start + x .len) to (piecesFrom pieces (i + 1) (n - (i + 1)))
+    apart-goes-on t = rw t at turn
+
+-- one zone
+pub nothing-listed : (g : Geometry) (z id : ℕ) (block list : List ℕ) → length list ≡ 0 → true ≡ zoneFits g z id block list
+nothing-listed g z id block list e = rw (le-ltb 0 (length list) (omega arith))
+
+pub something-listed : (g : Geometry) (z id : ℕ) (block list : List ℕ) → (length list ≡ 0 → ⊥)
+    → {low high : ℕ} → low ≡ zoneFrom g z → high ≡ zoneEnd g z → {ps : List Piece} → ps ≡ piecesAfter 0 id (pairsFrom list) (ownedInZone g z block)
+    → apart (g .shortest) low high ps ≡ zoneFits g z id block list
+something-listed g z id block list n el eh e = rw (lt-ltb 0 (length list) (omega arith)) (λ i. apart (g .shortest) (el i) (eh i) (e i))
+
+no-entries : (l : List ℕ) → length l ≤ 0 → l ≡ []
+no-entries [] h = refl
+no-entries (x ∷ l) h = absurd (omega arith)
+
+module _ {m : List ℕ} {g : Geometry} {id : ℕ} {list : List ℕ} (q : PlaceAsks m g id list) {z from to : ℕ} (h : z < g .zones) (p : IsPart g list z from to) where
   abbrev part : List ℕ
   part = take (to - from) (drop from list)
 
-  pub part-length : length part ≡ to - from
-  part-length = length-take-le (to - from) (drop from list) (omega (arith, p .in-list, length-drop from list))
+  abbrev after : List Piece
+  after = give id (pairsFrom list) (piecesOn g m)
 
-  pub part-double : to - from ≡ 2 * length (zonePairs g z (pairsFrom list))
-  part-double = sym part-length ∙ ap length (p .part) ∙ length-numbers (zonePairs g z (pairsFrom list))
+  pub zone-asks : {room : ℕ} → 4096 ≤ room → PartAsks m g z (take (to - from) (drop from list)) id room
+  zone-asks r =
+      let ok = q .editable .accepted .readable .numbers in
+      record { reads = reads-from (q .editable .accepted) z; zone = h; ascending = part-ascends p ok id; fits = omega (arith, part-fits p ok) }
 
-  pub part-pairs : pairsFrom part ≡ zonePairs g z (pairsFrom list)
-  part-pairs = ap pairsFrom (p .part) ∙ pairs-numbers (zonePairs g z (pairsFrom list))
+  zone-new : piecesAfter 0 id (pairsFrom part) (ownedInZone g z (zoneBlock g m z)) ≡ inZone g z after
+  zone-new =
+      let e : newPieces g (editOf 0 (pairsFrom list) id) (piecesOn g m) ≡ after = rw (ne-eqb id 0 (some-id q)) in
+      part-after (q .editable) 0 id (λ n. refl) h p ∙ ap (inZone g z) e
 
-  pub part-even : length part % 2 ≡ 0
-  part-even = omega (arith, part-length, part-double)
+  zone-same : length part ≤ 0 → inZone g z after ≡ inZone g z (piecesOn g m)
+  zone-same l =
+      let none : zonePairs g z (pairsFrom list) ≡ [] = sym (part-pairs p) ∙ ap pairsFrom (no-entries part l) in
+      zone-give g z id (pairsFrom list) (piecesOn g m) (map-pieces (q .editable) .fit .weak)
+      ∙ ap (λ (ps : List Piece). put ps (inZone g z (piecesOn g m))) (zone-listed g z id (pairsFrom list) ∙ ap (map (own id)) none)
 
-  pub part-rising : Rising g (zoneFrom g z) (pairsFrom part)
-  part-rising = subst (Rising g (zoneFrom g z)) (sym part-pairs) (p .rising)
+  pub zone-verdict : zoneFits g z id (zoneBlock g m z) (take (to - from) (drop from list)) ≡ apart (g .shortest) (zoneFrom g z) (zoneEnd g z) (inZone g z (give id (pairsFrom list) (piecesOn g m)))
+  zone-verdict =
+      by-test (ltb 0 (length part))
+      (λ t. rw t (ap (apart (g .shortest) (zoneFrom g z) (zoneEnd g z)) zone-new))
+      (λ t. rw t (sym (ap (apart (g .shortest) (zoneFrom g z) (zoneEnd g z)) (zone-same (ltb-false 0 (length part) t)) ∙ map-pieces (q .editable) .fit .parts z h)))
 
-  pub part-touches : ltb from to ≡ touches g z (pairsFrom list)
-  part-touches =
-      by-test (ltb from to)
-      (λ t. t ∙ sym (touches-pairs g z (pairsFrom list) ∙ lt-ltb 0 (length (zonePairs g z (pairsFrom list))) (omega (arith, part-double, ltb-true from to t))))
-      (λ t. t ∙ sym (touches-pairs g z (pairsFrom list) ∙ le-ltb 0 (length (zonePairs g z (pairsFrom list))) (omega (arith, part-double, ltb-false from to t))))
+-- all zones
+module _ (g : Geometry) (l : List Piece) {z : ℕ} where
+  pub all-end : g .zones ≤ z → allApart g z (g .zones - z) l ≡ true
+  all-end h = let n : g .zones - z ≡ 0 = omega arith in ap (λ (k : ℕ). allApart g z k l) n
 
-  pub part-some : ltb 0 (length part) ≡ touches g z (pairsFrom list)
-  part-some =
-      by-test (ltb from to)
-      (λ t. lt-ltb 0 (length part) (omega (arith, part-length, ltb-true from to t)) ∙ sym t ∙ part-touches)
-      (λ t. le-ltb 0 (length part) (omega (arith, part-length, ltb-false from to t)) ∙ sym t ∙ part-touches)
+  module _ (h : z < g .zones) where
+    one-more : allApart g z (g .zones - z) l ≡ apart (g .shortest) (zoneFrom g z) (zoneEnd g z) (inZone g z l) && allApart g (z + 1) (g .zones - (z + 1)) l
+    one-more =
+        let n : g .zones - z ≡ suc (g .zones - (z + 1)) = omega arith in
+        let s : suc z ≡ z + 1 = omega arith in
+        ap (λ (k : ℕ). allApart g z k l) n ∙ ap (λ (y : ℕ). apart (g .shortest) (zoneFrom g z) (zoneEnd g z) (inZone g z l) && allApart g y (g .zones - (z + 1)) l) s
 
-no-pairs : (qs : List Pair) → length qs ≤ 0 → qs ≡ []
-no-pairs [] h = refl
-no-pairs (q ∷ qs) h = absurd (omega arith)
+    pub all-fail : apart (g .shortest) (zoneFrom g z) (zoneEnd g z) (inZone g z l) ≡ false → allApart g z (g .zones - z) l ≡ false
+    all-fail t = rw t at one-more
 
-module _ {m : List ℕ} {g : Geometry} (e : EditableMap m g) {list : List ℕ} {z from to : ℕ} (h : z < g .zones) (p : IsPart g list z from to) where
-  pub zone-asks : ZoneAsks g z (zoneBlock g m z) (take (to - from) (drop from list))
-  zone-asks = record { read = zone-reads (e .accepted) z h; even = part-even p; rising = part-rising p; ascend = owned-ascend e z h }
-
-  pub zone-verdict : (id : ℕ) → apart (g .shortest) (zoneFrom g z) (zoneEnd g z) (inZone g z (give id (pairsFrom list) (piecesOn g m))) ≡ zoneFits g z id (zoneBlock g m z) (take (to - from) (drop from list))
-  zone-verdict id =
-      let old = ownedInZone g z (zoneBlock g m z) in
-      let new : inZone g z (give id (pairsFrom list) (piecesOn g m)) ≡ put (map (own id) (pairsFrom (part p))) old =
-      zone-give g z id (pairsFrom list) (piecesOn g m) (map-pieces e .fit .weak)
-      ∙ ap₂ put (zone-listed g z id (pairsFrom list) ∙ ap (map (own id)) (sym (part-pairs p))) (zone-pieces e z h) in
-      ap (apart (g .shortest) (zoneFrom g z) (zoneEnd g z)) new
-      ∙ by-test (ltb 0 (length (part p)))
-      (λ t. rw t refl)
-      (λ t. let n : pairsFrom (part p) ≡ [] = part-pairs p ∙ no-pairs (zonePairs g z (pairsFrom list)) (omega (arith, part-length p, part-double p, ltb-false 0 (length (part p)) t)) in
-      rw t (ap (λ (qs : List Pair). apart (g .shortest) (zoneFrom g z) (zoneEnd g z) (put (map (own id) qs) old)) n ∙ owned-apart e z h))
-
--- one zone more
-pub judged-turn : (g : Geometry) (l : List Piece) (z : ℕ) (fits zone both all : Bool) → z < g .zones → fits && allApart g z (g .zones - z) l ≡ all
-    → apart (g .shortest) (zoneFrom g z) (zoneEnd g z) (inZone g z l) ≡ zone → both ≡ fits && zone → both && allApart g (z + 1) (g .zones - (z + 1)) l ≡ all
-judged-turn g l z fits zone both all h e v b =
-    let n : g .zones - z ≡ suc (g .zones - (z + 1)) = omega arith in
-    let s : suc z ≡ z + 1 = omega arith in
-    let q : allApart g z (g .zones - z) l ≡ zone && allApart g (z + 1) (g .zones - (z + 1)) l =
-    ap (λ (k : ℕ). allApart g z k l) n ∙ ap₂ (λ (x : Bool) (y : ℕ). x && allApart g y (g .zones - (z + 1)) l) v s in
-    ap (λ (x : Bool). x && allApart g (z + 1) (g .zones - (z + 1)) l) b ∙ and-assoc fits zone (allApart g (z + 1) (g .zones - (z + 1)) l) ∙ sym (ap (λ (x : Bool). fits && x) q) ∙ e
-
-pub judged-ends : (g : Geometry) (l : List Piece) (z : ℕ) (fits all : Bool) → g .zones ≤ z → fits && allApart g z (g .zones - z) l ≡ all → fits ≡ all
-judged-ends g l z fits all h e =
-    let n : g .zones - z ≡ 0 = omega arith in
-    let q : fits && true ≡ all = ap (λ (k : ℕ). fits && allApart g z k l) (sym n) ∙ e in
-    sym (and-with-true fits) ∙ q
-
--- and counted
-pub count-turn : (g : Geometry) (qs : List Pair) (z k n : ℕ) (b : Bool) → k ≡ touchedCount (touchedFrom g qs 0 z) → b ≡ touches g z qs → n ≡ cond b 1 0 → k + n ≡ touchedCount (touchedFrom g qs 0 (z + 1))
-count-turn g qs z k n b ek eb en =
-    let s : suc z ≡ z + 1 = omega arith in
-    ap₂ (λ (x y : ℕ). x + y) ek (en ∙ ap (λ (x : Bool). cond x 1 0) (eb ∙ ap (λ (x : ℕ). touches g x qs) (sym (zero-add z))))
-    ∙ sym (count-next g qs 0 z) ∙ ap (λ (x : ℕ). touchedCount (touchedFrom g qs 0 x)) s
+    pub all-go-on : apart (g .shortest) (zoneFrom g z) (zoneEnd g z) (inZone g z l) ≡ true → allApart g z (g .zones - z) l ≡ allApart g (z + 1) (g .zones - (z + 1)) l
+    all-go-on t = rw t at one-more

@@ -1,4 +1,2 @@
 pub mod Placed
-pub mod Parts
-pub mod Merged
 pub mod Asked

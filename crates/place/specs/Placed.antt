@@ -3,14 +3,16 @@ use mathlib.Core.Path.{_≡_}
 use mathlib.Core.List.{List}
 use Prim.Native.Nat.{ℕ}
 use Rattle.geometry.specs.Answers.{refusal}
-use Rattle.calls.specs.Judge as call
-use Rattle.runs.specs.Steps.{Outcome, refused, done, outcome, step}
+use Rattle.edits.specs.Judge as call
+use Rattle.model.specs.Answer.{Answer, refused, answered}
+use Rattle.edits.specs.Edits.{Edit}
+use Rattle.edits.specs.Steps.{outcome, step}
 use Rattle.place.specs.declared.Placed.{Placed}
 use Rattle.place.specs.declared.Placed.the-variants as placed
 
-abbrev pub placeAnswer : Outcome → Placed
+abbrev pub placeAnswer : Answer Edit → Placed
 placeAnswer (refused n z) = placed.Refused (refusal n z)
-placeAnswer (done e s) = placed.Done
+placeAnswer (answered e) = placed.Done
 
 -- the answer and every byte of the map
 pub record Places (m : List ℕ) (id : ℕ) (list : List ℕ) (r : Placed) (after : List ℕ) : Type 0 where

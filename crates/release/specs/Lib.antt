@@ -1,2 +1,1 @@
 pub mod Released
-pub mod Zones

@@ -12,22 +12,23 @@ use lib.Seq.{getD-take, getD-drop}
 use Rattle.bits.specs.Bits.{byteBits, Bytes}
 use Rattle.geometry.specs.Record.{geometryOf}
 use Rattle.geometry.specs.Places.{firstBit, endBit}
-use Rattle.model.specs.Chain.{Entry}
+use Rattle.model.specs.Chain.{Entry, touching}
 use Rattle.model.specs.Blocks.{blockAt}
 use Rattle.model.specs.Pieces.{Piece}
 use Rattle.model.specs.Drawing.{Drawable}
-use Rattle.model.specs.Check.{entries, mapRead}
-use Rattle.calls.specs.Edits.{inZone}
-use Rattle.calls.specs.Judge.{Call}
-use Rattle.calls.proofs.PieceRuns.{run}
-use Rattle.runs.specs.Written.{written, toBlock}
-use Rattle.runs.specs.Steps.{touching, discOf, steps}
-use Rattle.runs.proofs.BlockBits.{BitsInBlock, header-rest, four-bytes, front-new}
-use Rattle.runs.proofs.BlockWritten.{length-written, body-written, after-written}
-use Rattle.runs.proofs.ZoneDrawable.{zone-drawable}
-use Rattle.runs.proofs.DiscKept.{disc-run}
-use Rattle.runs.proofs.MapAccepted.{map-geometry, map-disc}
-use Rattle.runs.proofs.ZonesAfter.{zone-at, zone-after}
+use Rattle.model.specs.Answer.{answered}
+use Rattle.model.specs.Check.{mapRead}
+use Rattle.edits.specs.Edits.{inZone}
+use Rattle.edits.specs.Judge.{Call}
+use Rattle.edits.proofs.PieceRuns.{run}
+use Rattle.edits.specs.Written.{written, toBlock}
+use Rattle.edits.specs.Steps.{discOf, steps}
+use Rattle.edits.proofs.BlockBits.{BitsInBlock, header-rest, four-bytes, front-new}
+use Rattle.edits.proofs.BlockWritten.{length-written, body-written, after-written}
+use Rattle.edits.proofs.ZoneDrawable.{zone-drawable}
+use Rattle.edits.proofs.DiscKept.{disc-run}
+use Rattle.edits.proofs.MapAccepted.{map-geometry, map-disc}
+use Rattle.edits.proofs.ZonesAfter.{zone-at, zone-after}
 
 -- a bit at or after place n, counted from there
 bit-from : (n : ℕ) (l : List Bool) (k : ℕ) → n ≤ k → getD l k false ≡ getD (drop n l) (k - n) false
@@ -64,7 +65,7 @@ module _ (idlen at end : ℕ) (b : List ℕ) (y : BitsInBlock idlen at end b) (p
       beside (inl h) = before-kept (k - 32) (omega arith)
       beside (inr h) = after-kept (k - 32) (omega arith)
 
-module _ (m : List ℕ) (ess : List (List Entry)) (bytes : Bytes m) (accepted : mapRead m ≡ entries ess) (apart : touching 0 ess ≡ none) where
+module _ (m : List ℕ) (ess : List (List Entry)) (bytes : Bytes m) (accepted : mapRead m ≡ answered ess) (apart : touching 0 ess ≡ none) where
   pub outside-kept : (cs : List Call) (z : ℕ) → z < (geometryOf m) .zones → (k : ℕ) → 32 ≤ k → (k < firstBit z) ⊎ (endBit (geometryOf m) ≤ k)
       → getD (byteBits (blockAt ((geometryOf m) .sector) z (steps m cs))) k false ≡ getD (byteBits (blockAt ((geometryOf m) .sector) z m)) k false
   outside-kept cs z h k lo o =

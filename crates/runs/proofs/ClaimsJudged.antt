@@ -18,20 +18,21 @@ use Rattle.model.specs.Chain.{Pair}
 use Rattle.model.specs.Pieces.{Piece, piecesOf, late, rotate}
 use Rattle.model.proofs.Options.{none-some, some-some}
 use Rattle.model.proofs.ChainDrawn.{Lies}
-use Rattle.calls.specs.Edits.{inZone}
-use Rattle.calls.specs.Holes.{hole, holes, holesFrom}
-use Rattle.calls.specs.Judge.{isEmpty, need, firstHole, taken, lowest}
-use Rattle.calls.specs.Room.{In, Earlier}
-use Rattle.calls.proofs.Kept.{all-keep}
-use Rattle.calls.proofs.HolesLeft.{apart-lies}
-use Rattle.calls.proofs.ClaimFits.{first-in}
-use Rattle.calls.proofs.Invariant.{FitPieces, some-bits}
-use Rattle.calls.proofs.RunsKept.{lowest-absent, lowest-lt}
-use Rattle.runs.specs.Editable.{zonesOf, Editable, piecesOn}
-use Rattle.runs.specs.Claims.{spansOn, ClaimRules}
-use Rattle.runs.proofs.MapAccepted.{map-geometry, map-disc}
-use Rattle.runs.proofs.HolesSpans.{holes-are-spans}
-use Rattle.runs.proofs.PairsGiven.{lowest-least, none-listed}
+use Rattle.edits.specs.Edits.{inZone}
+use Rattle.edits.specs.Holes.{hole, holes, holesFrom}
+use Rattle.edits.specs.Judge.{isEmpty, need, firstHole, taken, lowest}
+use Rattle.edits.specs.Room.{In, Earlier}
+use Rattle.edits.proofs.Kept.{all-keep}
+use Rattle.edits.proofs.HolesLeft.{apart-lies}
+use Rattle.edits.proofs.ClaimFits.{first-in}
+use Rattle.edits.proofs.Invariant.{FitPieces, some-bits}
+use Rattle.edits.proofs.Chosen.{lowest-absent, lowest-lt, lowest-least}
+use Rattle.edits.specs.Editable.{Editable}
+use Rattle.model.specs.Shown.{zonesOf, piecesOn, spansOn}
+use Rattle.runs.specs.Claims.{ClaimRules}
+use Rattle.edits.proofs.MapAccepted.{map-geometry, map-disc}
+use Rattle.edits.proofs.HolesSpans.{holes-are-spans}
+use Rattle.edits.proofs.PairsGiven.{none-listed}
 
 -- no id before the one found is unused
 lowest-first : (l : List Piece) (n id i : ℕ) → lowest l n id ≡ some i → (j : ℕ) → id ≤ j → j < i → piecesOf j l ≡ [] → ⊥

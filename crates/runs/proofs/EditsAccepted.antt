@@ -7,18 +7,19 @@ use Prim.Native.Nat.{ℕ}
 use Rattle.geometry.specs.declared.Geometry.{Geometry}
 use Rattle.geometry.specs.Record.{geometryOf}
 use Rattle.model.specs.Pieces.{Piece, piecesOf}
-use Rattle.calls.specs.Edits.{Edit, give, takes, gives}
-use Rattle.calls.specs.Holes.{allApart}
-use Rattle.calls.specs.Judge.{release, place, isEmpty, editable, pairsFrom, listFits}
-use Rattle.calls.specs.Room.{RoomFor}
-use Rattle.calls.specs.ListRules.{ListRules}
-use Rattle.calls.proofs.RunsKept.{release-tests, place-tests}
-use Rattle.calls.proofs.Twelve.{rules-give-fits}
-use Rattle.calls.proofs.Thirteen.{thirteen}
-use Rattle.runs.specs.Editable.{zonesOf, Editable, piecesOn, listedOn}
+use Rattle.edits.specs.Edits.{Edit, give, takes, gives}
+use Rattle.edits.specs.Holes.{allApart}
+use Rattle.edits.specs.Judge.{release, place, isEmpty, editable, pairsFrom, listFits}
+use Rattle.edits.specs.Room.{RoomFor}
+use Rattle.runs.specs.ListRules.{ListRules}
+use Rattle.edits.proofs.RunsKept.{release-tests, place-tests}
+use Rattle.runs.proofs.Twelve.{rules-give-fits}
+use Rattle.runs.proofs.Thirteen.{thirteen}
+use Rattle.edits.specs.Editable.{Editable}
+use Rattle.model.specs.Shown.{zonesOf, piecesOn, listedOn}
 use Rattle.runs.specs.Demand3.{Accepted}
-use Rattle.runs.proofs.MapAccepted.{map-geometry, map-disc}
-use Rattle.runs.proofs.PairsGiven.{none-listed}
+use Rattle.edits.proofs.MapAccepted.{map-geometry, map-disc}
+use Rattle.edits.proofs.PairsGiven.{none-listed}
 use Rattle.runs.proofs.StepLaws.{verdict, accept}
 
 module _ (m : List ℕ) (ed : Editable m) where

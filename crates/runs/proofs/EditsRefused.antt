@@ -12,70 +12,67 @@ use Rattle.bits.proofs.Tests.{by-test}
 use Rattle.geometry.specs.declared.Geometry.{Geometry}
 use Rattle.geometry.specs.Record.{geometryOf}
 use Rattle.geometry.specs.Accepted.{AcceptedGeometry}
-use Rattle.model.specs.Chain.{Pair, Entry}
-use Rattle.model.specs.Check.{MapRead, entries, mapRead}
-use Rattle.model.specs.Check as read
+use Rattle.model.specs.Chain.{Pair, Entry, touching}
+use Rattle.model.specs.Answer.{Answer, refused, answered, unless, andThen}
+use Rattle.model.specs.Check.{mapRead}
 use Rattle.model.specs.Pieces.{Piece, piecesOf}
-use Rattle.calls.specs.Edits.{Disc, Edit, give, gives}
-use Rattle.calls.specs.Holes.{holesFrom, allApart}
-use Rattle.calls.specs.Judge.{Call, place, claim, Verdict, unless, isEmpty, editable, numberFits, listFits, pairsFrom, need, firstHole, taken, lowest, claimIn, judge}
-use Rattle.calls.specs.Judge as judged
-use Rattle.calls.specs.Room.{In, RoomFor}
-use Rattle.calls.specs.ListRules.{ListRules}
-use Rattle.calls.proofs.Invariant.{FitPieces}
-use Rattle.calls.proofs.RunsKept.{unless-inv, same-edit, place-tests}
-use Rattle.calls.proofs.Twelve.{fits-gives-rules, rules-give-fits}
-use Rattle.calls.proofs.Thirteen.{thirteen}
-use Rattle.calls.proofs.Fourteen as onPieces
-use Rattle.runs.specs.Steps.{touching, discOf, refused, byVerdict, byTouching, byRead, outcome}
-use Rattle.runs.specs.Editable.{zonesOf, Editable, piecesOn, listedOn}
+use Rattle.edits.specs.Edits.{Edit, give, gives}
+use Rattle.edits.specs.Holes.{holesFrom, allApart}
+use Rattle.edits.specs.Judge.{Call, place, claim, isEmpty, editable, numberFits, listFits, pairsFrom, need, firstHole, taken, lowest, chooseIn, chosen, byChoice, judge}
+use Rattle.edits.specs.Room.{In, RoomFor}
+use Rattle.runs.specs.ListRules.{ListRules}
+use Rattle.edits.proofs.Invariant.{FitPieces}
+use Rattle.edits.proofs.Chosen.{chosen-parts}
+use Rattle.edits.proofs.RunsKept.{place-tests, claim-tests}
+use Rattle.runs.proofs.Twelve.{fits-gives-rules, rules-give-fits}
+use Rattle.runs.proofs.Thirteen.{thirteen}
+use Rattle.edits.proofs.Fourteen as onPieces
+use Rattle.edits.specs.Steps.{discOf, byTouching, byRead, outcome}
+use Rattle.edits.specs.Editable.{Editable}
+use Rattle.model.specs.Shown.{zonesOf, piecesOn, listedOn, spansOn}
 use Rattle.runs.specs.Demand3.{Accepted}
-use Rattle.runs.specs.Claims.{spansOn, ClaimRules}
-use Rattle.runs.proofs.StepWritten.{outcome-judged}
-use Rattle.runs.proofs.MapAccepted.{map-geometry, map-disc}
+use Rattle.runs.specs.Claims.{ClaimRules}
+use Rattle.edits.proofs.StepWritten.{outcome-judged}
+use Rattle.edits.proofs.MapAccepted.{map-geometry, map-disc}
 use Rattle.runs.proofs.MapRefused.{refused-number}
-use Rattle.runs.proofs.PairsGiven.{none-listed}
+use Rattle.edits.proofs.PairsGiven.{none-listed}
 use Rattle.runs.proofs.StepLaws.{verdict}
 use Rattle.runs.proofs.ClaimsJudged.{none-long, all-short, spans-holes, claim-rules}
 
--- a refused outcome was judged so
-judged-refused : (g : Geometry) (s : Disc) (v : Verdict) (n z : ℕ) → byVerdict g s v ≡ refused n z → v ≡ judged.refused n
-judged-refused g s (judged.refused k) n z h = cc
-judged-refused g s (judged.accepted e) n z h = let z : _≡_ {A = ℕ} 0 1 = cc in absurd (omega arith)
-
 -- a refusal that is not this test's own was found after it
-passed : (b : Bool) (n k : ℕ) (v : Verdict) → (n ≡ k → ⊥) → unless b n v ≡ judged.refused k → (b ≡ true) × (v ≡ judged.refused k)
+passed : (b : Bool) (n k : ℕ) (v : Answer Edit) → (n ≡ k → ⊥) → unless b n v ≡ refused k 0 → (b ≡ true) × (v ≡ refused k 0)
 passed true n k v d h = (cc, h)
 passed false n k v d h = let e : n ≡ k = cc in absurd (d e)
 
 -- a test's own refusal, where none after it has its number
-failed : (b : Bool) (n : ℕ) (v : Verdict) → (v ≡ judged.refused n → ⊥) → unless b n v ≡ judged.refused n → b ≡ true → ⊥
+failed : (b : Bool) (n : ℕ) (v : Answer Edit) → (v ≡ refused n 0 → ⊥) → unless b n v ≡ refused n 0 → b ≡ true → ⊥
 failed true n v d h t = d h
 failed false n v d h t = false≢true t
 
-accepted-not : (e : Edit) (n : ℕ) → judged.accepted e ≡ judged.refused n → ⊥
+accepted-not : (e : Edit) (n : ℕ) → answered e ≡ refused n 0 → ⊥
 accepted-not e n h = let z : _≡_ {A = ℕ} 0 1 = cc in omega arith
 
 -- 14, on any bytes: a map that is refused tells 1 to 7, and touching free fragments tell 9
-same-number : {a b x y : ℕ} → refused a x ≡ refused b y → a ≡ b
+same-number : {A : Type 0} {a b x y : ℕ} → _≡_ {A = Answer A} (refused a x) (refused b y) → a ≡ b
 same-number e = cc
 
 pub never-fourteen : (m : List ℕ) → Bytes m → (c : Call) (z : ℕ) → outcome m c ≡ refused 14 z → ⊥
 never-fourteen m bytes c z h = by-reading (mapRead m) refl h
   where
-    by-pairs : (ess : List (List Entry)) → mapRead m ≡ entries ess → (o : Option ℕ) → touching 0 ess ≡ o → byTouching (geometryOf m) (discOf m ess) c o ≡ refused 14 z → ⊥
+    by-pairs : (ess : List (List Entry)) → mapRead m ≡ answered ess → (o : Option ℕ) → touching 0 ess ≡ o → byTouching o (judge (geometryOf m) ((discOf m ess) .pieces) c) ≡ refused 14 z → ⊥
     by-pairs ess a (some y) t h = omega (arith, same-number h)
     by-pairs ess a none t h =
         let l = (discOf m ess) .pieces in
-        onPieces.never-fourteen (geometryOf m) l c (map-geometry m ess bytes a) (map-disc m ess bytes a t .pieces .fit)
-        (judged-refused (geometryOf m) (discOf m ess) (judge (geometryOf m) l c) 14 z h)
+        onPieces.never-fourteen (geometryOf m) l c (map-geometry m ess bytes a) (map-disc m ess bytes a t .pieces .fit) h
 
-    by-reading : (r : MapRead) → mapRead m ≡ r → byRead m c r ≡ refused 14 z → ⊥
-    by-reading (read.refused n y) a h = omega (arith, refused-number m n y a, same-number h)
-    by-reading (entries ess) a h =
-        by-test (numberFits (geometryOf m) c)
-        (λ t. by-pairs ess a (touching 0 ess) refl (simp t at h))
-        (λ t. let k : refused 8 0 ≡ refused 14 z = simp t at h in omega (arith, same-number k))
+    by-number : (ess : List (List Entry)) → mapRead m ≡ answered ess → (b : Bool)
+        → unless b 8 (byTouching (touching 0 ess) (judge (geometryOf m) ((discOf m ess) .pieces) c)) ≡ refused 14 z → ⊥
+    by-number ess a true h = by-pairs ess a (touching 0 ess) refl h
+    by-number ess a false h = omega (arith, same-number h)
+
+    by-reading : (r : Answer (List (List Entry))) → mapRead m ≡ r → andThen r (byRead (geometryOf m) c) ≡ refused 14 z → ⊥
+    by-reading (refused n y) a h = omega (arith, refused-number m n y a, same-number h)
+    by-reading (answered ess) a h = by-number ess a (numberFits (geometryOf m) c) h
 
 module _ (m : List ℕ) (ed : Editable m) where
   abbrev g : Geometry
@@ -90,11 +87,11 @@ module _ (m : List ℕ) (ed : Editable m) where
   fit : FitPieces (geometryOf m) (piecesOn (geometryOf m) m)
   fit = map-disc m (zonesOf m) (ed .bytes) (ed .accepted) (ed .apart) .pieces .fit
 
-  fate : (c : Call) → outcome m c ≡ byVerdict (geometryOf m) (discOf m (zonesOf m)) (judge (geometryOf m) (piecesOn (geometryOf m) m) c)
+  fate : (c : Call) → outcome m c ≡ judge (geometryOf m) (piecesOn (geometryOf m) m) c
   fate c = outcome-judged m (zonesOf m) (ed .accepted) (ed .apart) c
 
-  told : (c : Call) (n z : ℕ) → outcome m c ≡ refused n z → judge (geometryOf m) (piecesOn (geometryOf m) m) c ≡ judged.refused n
-  told c n z h = judged-refused (geometryOf m) (discOf m (zonesOf m)) (judge (geometryOf m) (piecesOn (geometryOf m) m) c) n z (sym (fate c) ∙ h)
+  told : (c : Call) (n z : ℕ) → outcome m c ≡ refused n z → judge (geometryOf m) (piecesOn (geometryOf m) m) c ≡ refused n z
+  told c n z h = sym (fate c) ∙ h
 
   pub twelve-broke-rules : (id : ℕ) (list : List ℕ) → outcome m (place id list) ≡ refused 12 0 → ListRules (geometryOf m) id list → ⊥
   twelve-broke-rules id list h r =
@@ -102,8 +99,8 @@ module _ (m : List ℕ) (ed : Editable m) where
       let h2 = passed (isEmpty (piecesOf id l)) 11 12 _ (λ e. omega arith) (h1 .1) in
       let b = allApart g 0 (g .zones) (give id (pairsFrom list) l) in
       let e = gives id (pairsFrom list) in
-      failed (listFits g id list) 12 (unless b 13 (judged.accepted e))
-      (λ k. accepted-not e 12 (passed b 13 12 (judged.accepted e) (λ e. omega arith) k .1))
+      failed (listFits g id list) 12 (unless b 13 (answered e))
+      (λ k. accepted-not e 12 (passed b 13 12 (answered e) (λ e. omega arith) k .1))
       (h2 .1) (rules-give-fits g ok id list r)
 
   pub broken-rules : (id : ℕ) (list : List ℕ) → editable (geometryOf m) id ≡ true → listedOn m id ≡ [] → (ListRules (geometryOf m) id list → ⊥)
@@ -125,7 +122,7 @@ module _ (m : List ℕ) (ed : Editable m) where
       let h2 = passed (isEmpty (piecesOf id l)) 11 13 _ (λ e. omega arith) (h1 .1) in
       let h3 = passed (listFits g id list) 12 13 _ (λ e. omega arith) (h2 .1) in
       let e = gives id (pairsFrom list) in
-      failed (allApart g 0 (g .zones) (give id (pairsFrom list) l)) 13 (judged.accepted e) (accepted-not e 13) (h3 .1) (thirteen g id list l ok fit (h3 .0) .1 r)
+      failed (allApart g 0 (g .zones) (give id (pairsFrom list) l)) 13 (answered e) (accepted-not e 13) (h3 .1) (thirteen g id list l ok fit (h3 .0) .1 r)
 
   pub without-room : (id : ℕ) (list : List ℕ) → editable (geometryOf m) id ≡ true → listedOn m id ≡ [] → ListRules (geometryOf m) id list
       → (RoomFor (geometryOf m) id list (piecesOn (geometryOf m) m) → ⊥) → outcome m (place id list) ≡ refused 13 0
@@ -146,19 +143,15 @@ module _ (m : List ℕ) (ed : Editable m) where
 
     pub claimed : (e : Edit) → Accepted m (claim size) e → (id : ℕ) × (q : Pair) × (e ≡ gives id (q ∷ [])) × ClaimRules m size id q
     claimed e a =
-        go unused refl found refl (unless-inv (ltb 0 size) 12 (claimIn unused found (g .shortest) (need g size)) e (verdict m ed (claim size) e a) .1)
-      where
-        go : (i : Option ℕ) → unused ≡ i → (o : Option Pair) → found ≡ o → claimIn i o (g .shortest) (need g size) ≡ judged.accepted e
-            → (id : ℕ) × (q : Pair) × (e ≡ gives id (q ∷ [])) × ClaimRules m size id q
-        go none ei o eo h = let z : _≡_ {A = ℕ} 0 1 = cc in absurd (omega arith)
-        go (some id) ei none eo h = let z : _≡_ {A = ℕ} 0 1 = cc in absurd (omega arith)
-        go (some id) ei (some q) eo h = (id, taken (g .shortest) (need g size) q, sym (same-edit h), claim-rules m ed size id q ei eo)
+        let t = claim-tests g l size e (verdict m ed (claim size) e a) in
+        let p = chosen-parts g l size (t .0) (t .1) (t .2) in
+        (t .0, taken (g .shortest) (need g size) (p .0), sym (ap (gives (t .0)) (p .3) ∙ t .3), claim-rules m ed size (t .0) (p .0) (p .1) (p .2))
 
     pub fifteen-had-none : outcome m (claim size) ≡ refused 15 0 → (h : Pair) → In h (spansOn m) → h .len < need (geometryOf m) size
     fifteen-had-none o h i =
         none-long (need g size) (holesFrom g 0 (g .zones) l) (go unused found refl (passed (ltb 0 size) 12 15 _ (λ e. omega arith) (told (claim size) 15 0 o) .1)) h (subst (In h) (spans-holes m ed) i)
       where
-        go : (i : Option ℕ) (o : Option Pair) → found ≡ o → claimIn i o (g .shortest) (need g size) ≡ judged.refused 15 → found ≡ none
+        go : (i : Option ℕ) (o : Option Pair) → found ≡ o → byChoice (chooseIn i o (g .shortest) (need g size)) ≡ refused 15 0 → found ≡ none
         go none o eo h = let z : _≡_ {A = ℕ} 14 15 = cc in absurd (omega arith)
         go (some id) none eo h = eo
         go (some id) (some q) eo h = let z : _≡_ {A = ℕ} 0 1 = cc in absurd (omega arith)
@@ -169,6 +162,6 @@ module _ (m : List ℕ) (ed : Editable m) where
         none-found : found ≡ none
         none-found = all-short (need g size) (holesFrom g 0 (g .zones) l) (λ h i. short h (subst⁻¹ (In h) (spans-holes m ed) i))
 
-        go : (i : Option ℕ) → unused ≡ i → byVerdict g (discOf m (zonesOf m)) (claimIn unused found (g .shortest) (need g size)) ≡ refused 15 0
+        go : (i : Option ℕ) → unused ≡ i → byChoice (chosen g l size) ≡ refused 15 0
         go none e = absurd (onPieces.no-fourteen g l ok fit e)
-        go (some id) e = ap₂ (λ (i : Option ℕ) (o : Option Pair). byVerdict g (discOf m (zonesOf m)) (claimIn i o (g .shortest) (need g size))) e none-found
+        go (some id) e = ap₂ (λ (i : Option ℕ) (o : Option Pair). byChoice (chooseIn i o (g .shortest) (need g size))) e none-found

@@ -10,25 +10,25 @@ use Rattle.geometry.specs.declared.Geometry.{Geometry}
 use Rattle.geometry.specs.Record.{geometryOf}
 use Rattle.geometry.specs.Accepted.{AcceptedGeometry}
 use Rattle.model.specs.Rules.{CheckRule, zoneBlock}
-use Rattle.model.specs.Table.{judgementOf}
 use Rattle.model.specs.Check.{blocksOf}
 use Rattle.model.specs.Pieces.{objectPairs}
 use Rattle.model.proofs.MapJudged.{accepted-keeps-rules}
-use Rattle.calls.specs.Edits.{Disc, Edit}
-use Rattle.calls.specs.Judge.{Call}
-use Rattle.calls.specs.Runs.{Undone, crossRun}
-use Rattle.calls.specs.Order.{Ascending}
-use Rattle.calls.proofs.PieceRuns.{run}
-use Rattle.calls.proofs.Invariant.{FitPieces, fit-asc}
-use Rattle.calls.proofs.RunsKept.{run-cross, run-fit}
-use Rattle.calls.proofs.CrossKey.{runs-cross-same}
-use Rattle.calls.proofs.SamePieces.{lists-fix-pieces}
-use Rattle.runs.specs.Steps.{discOf, step, steps}
-use Rattle.runs.specs.Editable.{zonesOf, Editable, listedOn, ReadsAfter}
+use Rattle.edits.specs.Edits.{Disc, Edit}
+use Rattle.edits.specs.Judge.{Call}
+use Rattle.edits.specs.Runs.{Undone, crossRun}
+use Rattle.edits.specs.Order.{Ascending}
+use Rattle.edits.proofs.PieceRuns.{run}
+use Rattle.edits.proofs.Invariant.{FitPieces, fit-asc}
+use Rattle.edits.proofs.RunsKept.{run-cross, run-fit}
+use Rattle.runs.proofs.CrossKey.{runs-cross-same}
+use Rattle.runs.proofs.SamePieces.{lists-fix-pieces}
+use Rattle.edits.specs.Steps.{discOf, step, steps}
+use Rattle.edits.specs.Editable.{Editable, ReadsAfter}
+use Rattle.model.specs.Shown.{zonesOf, listedOn}
 use Rattle.runs.specs.Demand3.{editsOf, Accepted, SameLists, RunLaws}
-use Rattle.runs.proofs.StepWritten.{writtenMap}
-use Rattle.runs.proofs.MapAccepted.{map-geometry, map-disc}
-use Rattle.runs.proofs.RunsOnBytes.{ReadsAs, reads-listed, reads-editable, run-bytes, undone-bytes, run-kept, bytes-kept}
+use Rattle.edits.proofs.StepWritten.{writtenMap}
+use Rattle.edits.proofs.MapAccepted.{map-geometry, map-disc}
+use Rattle.edits.proofs.RunsOnBytes.{ReadsAs, reads-listed, reads-editable, run-bytes, undone-bytes, run-kept, bytes-kept}
 use Rattle.runs.proofs.EditsOf.{edits-same}
 use Rattle.runs.proofs.StepLaws.{reads-after}
 
@@ -88,7 +88,7 @@ module _ (m : List ℕ) (ed : Editable m) where
   run-checks : (cs : List Call) (z : ℕ) → z < (geometryOf m) .zones → CheckRule (zoneBlock (geometryOf m) (steps m cs) z)
   run-checks cs z h =
       let r = run-reads cs in
-      let w = accepted-keeps-rules (steps m cs) (ap judgementOf (r .1)) in
+      let w = accepted-keeps-rules (steps m cs) (r .0) (r .1) in
       subst (λ (x : Geometry). z < x .zones → CheckRule (zoneBlock x (steps m cs) z)) (r .4) (w .checks z) h
 
   -- a step of a run is a step on the map that the calls before it leave

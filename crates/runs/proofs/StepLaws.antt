@@ -10,41 +10,39 @@ use Rattle.geometry.specs.Record.{geometryOf}
 use Rattle.geometry.specs.Accepted.{AcceptedGeometry}
 use Rattle.model.specs.Chain.{Pair, numbersOf}
 use Rattle.model.specs.Pieces.{Piece, objectPairs}
-use Rattle.calls.specs.Edits.{Disc, without, Edit, takes, gives, edit, editId}
-use Rattle.calls.specs.Judge.{Call, release, place, claim, Verdict, isEmpty, editable, judge}
-use Rattle.calls.specs.Judge as judged
-use Rattle.calls.specs.Runs.{Undone, nothing, strike, released, restored}
-use Rattle.calls.proofs.PieceRuns.{obey, edits}
-use Rattle.calls.proofs.PieceRuns as onPieces
-use Rattle.calls.proofs.RunsKept.{release-tests, allowed}
-use Rattle.calls.proofs.ReadsAfter.{ListedAfter, listed-after}
-use Rattle.calls.proofs.Returned.{place-back, release-listed, release-back}
-use Rattle.runs.specs.Steps.{refused, byVerdict, discOf, outcome, bytesAfter, step, steps}
-use Rattle.runs.specs.Editable.{zonesOf, Editable, listedOn, NamedMoved, ReadsAfter}
+use Rattle.edits.specs.Edits.{Disc, without, Edit, takes, gives, edit, editId}
+use Rattle.model.specs.Answer.{Answer, refused, answered}
+use Rattle.edits.specs.Judge.{Call, release, place, claim, isEmpty, editable, judge}
+use Rattle.edits.specs.Runs.{Undone, nothing, strike, released, restored}
+use Rattle.edits.proofs.PieceRuns.{obey, edits}
+use Rattle.edits.proofs.PieceRuns as onPieces
+use Rattle.edits.proofs.RunsKept.{release-tests, allowed}
+use Rattle.edits.proofs.ReadsAfter.{ListedAfter, listed-after}
+use Rattle.edits.proofs.Returned.{place-back, release-listed, release-back}
+use Rattle.edits.specs.Steps.{discOf, outcome, bytesAfter, step, steps}
+use Rattle.edits.specs.Editable.{Editable, NamedMoved, ReadsAfter}
+use Rattle.model.specs.Shown.{zonesOf, listedOn}
 use Rattle.runs.specs.Demand3.{Accepted}
-use Rattle.runs.proofs.PiecesKept.{AcceptedPieces}
-use Rattle.runs.proofs.StepWritten.{outcome-judged}
-use Rattle.runs.proofs.MapAccepted.{map-geometry, map-disc}
-use Rattle.runs.proofs.RunsOnBytes.{ReadsAs, reads-listed, reads-editable, undone-bytes, step-accepted, bytes-kept}
-use Rattle.runs.proofs.ZonesAfter.{zone-untouched}
+use Rattle.edits.proofs.PiecesKept.{AcceptedPieces}
+use Rattle.edits.proofs.StepWritten.{outcome-judged}
+use Rattle.edits.proofs.MapAccepted.{map-geometry, map-disc}
+use Rattle.edits.proofs.RunsOnBytes.{ReadsAs, reads-listed, reads-editable, undone-bytes, step-accepted, bytes-kept}
+use Rattle.edits.proofs.ZonesAfter.{zone-untouched}
 use Rattle.runs.proofs.BitsKept.{outside-kept}
 use Rattle.runs.proofs.EditsOf.{judged-done}
-use Rattle.runs.proofs.PairsGiven.{none-listed, given-facts, given-placed}
+use Rattle.edits.proofs.PairsGiven.{none-listed, given-facts, given-placed}
 
 pub refused-keeps : (m : List ℕ) (c : Call) (n z : ℕ) → outcome m c ≡ refused n z → step m c ≡ m
 refused-keeps m c n z h = ap (bytesAfter m) h
 
 -- on a map that reads as a disc, a verdict is the outcome
-pub reads-outcome : (g : Geometry) (s : Disc) (m : List ℕ) → ReadsAs g s m → (c : Call) (e : Edit) → judge g (s .pieces) c ≡ judged.accepted e → Accepted m c e
-reads-outcome g s m r c e h = record {
-  disc = edit g e s;
-  is = outcome-judged m (r .0) (r .1) (r .2) c ∙ ap₂ (λ (x : Geometry) (d : Disc). byVerdict x d (judge x (d .pieces) c)) (r .4) (r .3) ∙ ap (byVerdict g s) h;
-}
+pub reads-outcome : (g : Geometry) (s : Disc) (m : List ℕ) → ReadsAs g s m → (c : Call) (e : Edit) → judge g (s .pieces) c ≡ answered e → Accepted m c e
+reads-outcome g s m r c e h = outcome-judged m (r .0) (r .1) (r .2) c ∙ ap₂ (λ (x : Geometry) (d : Disc). judge x (d .pieces) c) (r .4) (r .3) ∙ h
 
-two-edits : (g : Geometry) (s : Disc) (c d : Call) (a b : Edit) → judge g (s .pieces) c ≡ judged.accepted a → judge g ((edit g a s) .pieces) d ≡ judged.accepted b
+two-edits : (g : Geometry) (s : Disc) (c d : Call) (a b : Edit) → judge g (s .pieces) c ≡ answered a → judge g ((edit g a s) .pieces) d ≡ answered b
     → edits g s (c ∷ d ∷ []) ≡ a ∷ b ∷ []
 two-edits g s c d a b h k =
-    ap (λ (v : Verdict). onPieces.kept v (edits g (obey g v s) (d ∷ []))) h ∙ ap (λ (v : Verdict). a ∷ onPieces.kept v []) k
+    ap (λ (v : Answer Edit). onPieces.kept v (edits g (obey g v s) (d ∷ []))) h ∙ ap (λ (v : Answer Edit). a ∷ onPieces.kept v []) k
 
 module _ (m : List ℕ) (ed : Editable m) where
   abbrev g : Geometry
@@ -59,18 +57,18 @@ module _ (m : List ℕ) (ed : Editable m) where
   pieces-ok : AcceptedPieces (geometryOf m) ((discOf m (zonesOf m)) .pieces)
   pieces-ok = map-disc m (zonesOf m) (ed .bytes) (ed .accepted) (ed .apart) .pieces
 
-  pub verdict : (c : Call) (e : Edit) → Accepted m c e → judge (geometryOf m) ((discOf m (zonesOf m)) .pieces) c ≡ judged.accepted e
-  verdict c e a = judged-done m (zonesOf m) (ed .accepted) (ed .apart) c e (a .disc) (a .is)
+  pub verdict : (c : Call) (e : Edit) → Accepted m c e → judge (geometryOf m) ((discOf m (zonesOf m)) .pieces) c ≡ answered e
+  verdict c e a = judged-done m (zonesOf m) (ed .accepted) (ed .apart) c e a
 
-  pub accept : (c : Call) (e : Edit) → judge (geometryOf m) ((discOf m (zonesOf m)) .pieces) c ≡ judged.accepted e → Accepted m c e
-  accept c e h = record { disc = edit g e s; is = step-accepted m (zonesOf m) (ed .bytes) (ed .accepted) (ed .apart) c e h .0 }
+  pub accept : (c : Call) (e : Edit) → judge (geometryOf m) ((discOf m (zonesOf m)) .pieces) c ≡ answered e → Accepted m c e
+  accept c e h = step-accepted m (zonesOf m) (ed .bytes) (ed .accepted) (ed .apart) c e h .0
 
   after-reads : (c : Call) (e : Edit) → Accepted m c e → ReadsAs (geometryOf m) (edit (geometryOf m) e (discOf m (zonesOf m))) (step m c)
   after-reads c e a = step-accepted m (zonesOf m) (ed .bytes) (ed .accepted) (ed .apart) c e (verdict c e a) .2
 
   -- an edit and its undo leave every byte
-  undo : (c d : Call) (a b : Edit) → judge (geometryOf m) ((discOf m (zonesOf m)) .pieces) c ≡ judged.accepted a
-      → judge (geometryOf m) ((edit (geometryOf m) a (discOf m (zonesOf m))) .pieces) d ≡ judged.accepted b → Undone (a ∷ b ∷ []) → steps m (c ∷ d ∷ []) ≡ m
+  undo : (c d : Call) (a b : Edit) → judge (geometryOf m) ((discOf m (zonesOf m)) .pieces) c ≡ answered a
+      → judge (geometryOf m) ((edit (geometryOf m) a (discOf m (zonesOf m))) .pieces) d ≡ answered b → Undone (a ∷ b ∷ []) → steps m (c ∷ d ∷ []) ≡ m
   undo c d a b h k u =
       undone-bytes m (zonesOf m) (ed .bytes) (ed .accepted) (ed .apart) (c ∷ d ∷ []) (subst⁻¹ Undone (two-edits (geometryOf m) s c d a b h k) u)
 
@@ -112,8 +110,8 @@ module _ (m : List ℕ) (ed : Editable m) where
       let h = verdict c e a in
       let q : qs ≡ objectPairs (geometryOf m) id P = allowed (geometryOf m) P c e ok (pieces-ok .fit) h .0 in
       let t = release-tests (geometryOf m) P id room e h in
-      let k : judge (geometryOf m) (without id P) (place id (numbersOf qs)) ≡ judged.accepted (gives id qs) =
-      subst⁻¹ (λ (r : List Pair). judge (geometryOf m) (without id P) (place id (numbersOf r)) ≡ judged.accepted (gives id r)) q
+      let k : judge (geometryOf m) (without id P) (place id (numbersOf qs)) ≡ answered (gives id qs) =
+      subst⁻¹ (λ (r : List Pair). judge (geometryOf m) (without id P) (place id (numbersOf r)) ≡ answered (gives id r)) q
       (place-back (geometryOf m) ok id P (pieces-ok .fit) (pieces-ok .clusters) (t .0)
       (λ n. false≢true (sym (ap (λ (r : List Piece). not (isEmpty r)) (none-listed (geometryOf m) id P n)) ∙ t .1))) in (
         reads-outcome (geometryOf m) (edit (geometryOf m) e s) (step m c) (after-reads c e a) (place id (numbersOf qs)) (gives id qs) k,

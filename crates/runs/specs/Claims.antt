@@ -5,14 +5,9 @@ use mathlib.Core.Logic.{_⊎_}
 use Prim.Native.Nat.{ℕ, _+_, _*_, _<_, _≤_}
 use Rattle.geometry.specs.Record.{geometryOf}
 use Rattle.model.specs.Chain.{Pair}
-use Rattle.model.specs.Pieces.{freeSpans}
-use Rattle.calls.specs.Judge.{need}
-use Rattle.calls.specs.Room.{In, Earlier}
-use Rattle.runs.specs.Editable.{zonesOf, listedOn}
-
--- the free spans of a map, as the call `free` lists them: zones from 0, ascending
-abbrev pub spansOn : List ℕ → List Pair
-spansOn m = freeSpans (geometryOf m) 0 (zonesOf m)
+use Rattle.edits.specs.Judge.{need}
+use Rattle.edits.specs.Room.{In, Earlier}
+use Rattle.model.specs.Shown.{listedOn, spansOn}
 
 -- a claim of so many bytes gives the pair q to an id
 pub record ClaimRules (m : List ℕ) (size id : ℕ) (q : Pair) : Type 0 where

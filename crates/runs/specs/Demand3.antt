@@ -10,26 +10,27 @@ use Rattle.geometry.specs.declared.Geometry.{Geometry}
 use Rattle.geometry.specs.Record.{geometryOf}
 use Rattle.model.specs.Chain.{Pair, numbersOf}
 use Rattle.model.specs.Rules.{CheckRule, zoneBlock}
+use Rattle.model.specs.Answer.{Answer, refused, answered}
 use Rattle.model.specs.Check.{blocksOf}
-use Rattle.calls.specs.Edits.{Disc, Edit, takes, gives}
-use Rattle.calls.specs.Judge.{Call, release, place, claim, editable}
-use Rattle.calls.specs.Runs.{Undone, crossRun}
-use Rattle.runs.specs.Steps.{Outcome, refused, done, outcome, step, steps}
-use Rattle.runs.specs.Editable.{Editable, listedOn, ReadsAfter}
+use Rattle.edits.specs.Edits.{Edit, takes, gives}
+use Rattle.edits.specs.Judge.{Call, release, place, claim, editable}
+use Rattle.edits.specs.Runs.{Undone, crossRun}
+use Rattle.edits.specs.Steps.{outcome, step, steps}
+use Rattle.edits.specs.Editable.{Editable, ReadsAfter}
+use Rattle.model.specs.Shown.{listedOn}
 
 -- the accepted calls of a run, as their edits: "with refused calls struck out"
-abbrev pub kept : Outcome → List Edit → List Edit
+abbrev pub kept : Answer Edit → List Edit → List Edit
 kept (refused n z) es = es
-kept (done e s) es = e ∷ es
+kept (answered e) es = e ∷ es
 
 abbrev pub editsOf : List ℕ → List Call → List Edit
 editsOf m [] = []
 editsOf m (c ∷ cs) = kept (outcome m c) (editsOf (step m c) cs)
 
 -- a call is accepted, with this edit
-pub record Accepted (m : List ℕ) (c : Call) (e : Edit) : Type 0 where
-  pub disc : Disc
-  pub is : outcome m c ≡ done e disc
+abbrev pub Accepted : List ℕ → Call → Edit → Type 0
+Accepted m c e = outcome m c ≡ answered e
 
 -- equal "except perhaps in zone check and cross check bytes": bytes 0 and 3 of each block
 pub record SameButChecks (g : Geometry) (m n : List ℕ) : Type 0 where

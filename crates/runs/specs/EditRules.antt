@@ -7,14 +7,16 @@ use Prim.Native.Nat.{ℕ, _<_}
 use Rattle.bits.specs.Bits.{Bytes}
 use Rattle.geometry.specs.Record.{geometryOf}
 use Rattle.model.specs.Chain.{Pair}
-use Rattle.calls.specs.Edits.{Edit, takes, gives}
-use Rattle.calls.specs.Judge.{Call, release, place, claim, editable, pairsFrom, listFits, need}
-use Rattle.calls.specs.Room.{In, RoomFor}
-use Rattle.calls.specs.ListRules.{ListRules}
-use Rattle.runs.specs.Steps.{refused, outcome}
-use Rattle.runs.specs.Editable.{piecesOn, Editable, listedOn}
+use Rattle.edits.specs.Edits.{Edit, takes, gives}
+use Rattle.edits.specs.Judge.{Call, release, place, claim, editable, pairsFrom, listFits, need}
+use Rattle.edits.specs.Room.{In, RoomFor}
+use Rattle.runs.specs.ListRules.{ListRules}
+use Rattle.model.specs.Answer.{refused}
+use Rattle.edits.specs.Steps.{outcome}
+use Rattle.edits.specs.Editable.{Editable}
+use Rattle.model.specs.Shown.{piecesOn, listedOn, spansOn}
 use Rattle.runs.specs.Demand3.{Accepted}
-use Rattle.runs.specs.Claims.{spansOn, ClaimRules}
+use Rattle.runs.specs.Claims.{ClaimRules}
 
 pub record EditRules : Type 0 where
   -- "Release: removes all fragments of an object, returns its pairs in object order"

@@ -1,6 +1,4 @@
-pub mod Written
-pub mod Steps
-pub mod Editable
+pub mod ListRules
 pub mod Demand3
 pub mod Claims
 pub mod EditRules

@@ -1,24 +1,25 @@
 // The library for C and Rust: every call of document 01 as an exported function. A slice is a pointer and a length, a reference to a
 // number a pointer. Each answers the refusal number (0: accepted); `zone` is always written, the zone told or 0, and so is every other
 // number lent, 0 where the call is refused. Each has the full contract of the call that it forwards to.
+use address::Reached;
 use claim::Claimed;
 use listing::Listed;
 use map::Checked;
 use place::Placed;
-use reach::Reached;
-use reach::Swept;
+use sweep::Swept;
 ghost use mathlib.Core.Path.{_≡_};
 ghost use lib.ListN.{length};
-ghost use Rattle.calls.specs.Judge as call;
-ghost use Rattle.runs.specs.Steps.{outcome, step};
+ghost use Rattle.edits.specs.Judge as call;
+ghost use Rattle.edits.specs.Steps.{outcome, step};
 ghost use Rattle.map.specs.Checked.{checked, checkNumbers};
 ghost use Rattle.listing.specs.Listed.{objectFound, freeFound, listNumbers};
 ghost use Rattle.listing.specs.Listed as listed;
-ghost use Rattle.reach.specs.Address.{addressFound, addressAnswer, addressNumbers};
-ghost use Rattle.reach.specs.Sweep.{objectSweep, freeSweep, sweepAnswer, sweepNumbers, imageAfter};
+ghost use Rattle.address.specs.Address.{addressFound, addressAnswer, addressNumbers};
+ghost use Rattle.sweep.specs.Sweep.{objectSweep, freeSweep, sweepAnswer, sweepNumbers, imageAfter};
 ghost use Rattle.release.specs.Released.{pairsTaken};
 ghost use Rattle.place.specs.Placed as placed;
 ghost use Rattle.claim.specs.Claimed as claimed;
+ghost use Rattle.shoalswift.specs.Geometry.{geometryNumbers};
 
 // Checks a map.
 #[no_mangle]
@@ -31,6 +32,41 @@ pub extern "C" fn shoalswift_check(map: &[u8], zone: &mut u32) -> u32
             0
         }
         Checked::Refused(r) => {
+            *zone = r.zone;
+            r.number
+        }
+    }
+}
+
+// The geometry of an accepted map: S, B, nzones, P (the ids per zone) and disc_size, so that no caller has to read the record.
+#[no_mangle]
+pub extern "C" fn shoalswift_geometry(
+    map: &[u8],
+    sector: &mut u32,
+    unit: &mut u32,
+    zones: &mut u32,
+    ids: &mut u32,
+    size: &mut u64,
+    zone: &mut u32,
+) -> u32
+    ensures { λ r. ⌜ (r, now (zone .exit), now (sector .exit), now (unit .exit), now (zones .exit), now (ids .exit), now (size .exit)) ≡ geometryNumbers (checked (now (map .entry))) ⌝ }
+{
+    match map::check(map) {
+        Checked::Accepted(g) => {
+            *sector = g.sector as u32;
+            *unit = g.unit as u32;
+            *zones = g.zones as u32;
+            *ids = g.ids as u32;
+            *size = g.size as u64;
+            *zone = 0;
+            0
+        }
+        Checked::Refused(r) => {
+            *sector = 0;
+            *unit = 0;
+            *zones = 0;
+            *ids = 0;
+            *size = 0;
             *zone = r.zone;
             r.number
         }
@@ -79,7 +115,7 @@ pub extern "C" fn shoalswift_address(
 ) -> u32
     ensures { λ r. ⌜ (r, now (zone .exit), now (address .exit)) ≡ addressNumbers (addressAnswer (addressFound (now (map .entry)) n position)) ⌝ }
 {
-    match reach::address(map, n, position) {
+    match address::address(map, n, position) {
         Reached::At(l) => {
             *address = l.address;
             *zone = 0;
@@ -107,7 +143,7 @@ pub extern "C" fn shoalswift_sweep_object(
     ensures answer { λ r. ⌜ (r, now (zone .exit), now (count .exit)) ≡ sweepNumbers (sweepAnswer first (length (now (image .entry))) (objectSweep (now (map .entry)) id first (length (now (image .entry))))) ⌝ }
     ensures image { λ r. ⌜ now (image .exit) ≡ imageAfter first fill (now (image .entry)) (objectSweep (now (map .entry)) id first (length (now (image .entry)))) ⌝ }
 {
-    let r = reach::sweep_object(map, image, first, fill, id);
+    let r = sweep::sweep_object(map, image, first, fill, id);
     count_told(r, count, zone)
 }
 
@@ -124,7 +160,7 @@ pub extern "C" fn shoalswift_sweep_free(
     ensures answer { λ r. ⌜ (r, now (zone .exit), now (count .exit)) ≡ sweepNumbers (sweepAnswer first (length (now (image .entry))) (freeSweep (now (map .entry)) first (length (now (image .entry))))) ⌝ }
     ensures image { λ r. ⌜ now (image .exit) ≡ imageAfter first fill (now (image .entry)) (freeSweep (now (map .entry)) first (length (now (image .entry)))) ⌝ }
 {
-    let r = reach::sweep_free(map, image, first, fill);
+    let r = sweep::sweep_free(map, image, first, fill);
     count_told(r, count, zone)
 }
 

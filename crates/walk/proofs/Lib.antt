@@ -1,2 +1,5 @@
 pub mod ZonesRead
 pub mod Remains
+pub mod HeldLines
+pub mod OwnersSome
+pub mod ZonesTouching

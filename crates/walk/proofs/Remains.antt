@@ -26,13 +26,13 @@ use Rattle.fragment.proofs.Step.{fragmentOf}
 use Rattle.fragment.proofs.Opened.{Opened, closes, opened, read-on, none-read}
 use Rattle.zone.specs.Lines.{entriesIn, holderNumber}
 use Rattle.zone.proofs.AllocBits.{first-high, ZoneBlock, alloc-all}
-use Rattle.map.specs.Accepted.{AcceptedMap}
+use Rattle.map.specs.Accepted.{ReadableFrom}
 use Rattle.walk.specs.declared.Walk.{Walk}
 use Rattle.walk.specs.declared.Line.{Line}
 use Rattle.walk.specs.declared.Step.{Step}
 use Rattle.walk.specs.SoundZone.{SoundZone}
 use Rattle.walk.specs.Remaining.{lineOf, linesIn, linesFrom, linesHere, linesOn, remaining, Passing, Stands, Starts, Advances, Settles}
-use Rattle.walk.proofs.ZonesRead.{zone-reads}
+use Rattle.walk.proofs.ZonesRead.{zone-sound}
 
 abbrev pub walk : ℕ → ℕ → ℕ → Walk
 walk z at chain = record { zone = z; at = at; chain = chain }
@@ -66,16 +66,16 @@ module _ {g : Geometry} {z : ℕ} {b : List ℕ} (s : SoundZone g z b) where
       ∙ ap (followFrom (firstBit z) (onward 8 (linkIn b))) (p .cut) ∙ p .chain
 
 -- from the first fragment of a zone on, or past the last zone
-module _ {m : List ℕ} {g : Geometry} (a : AcceptedMap m g) (z : ℕ) where
+module _ {m : List ℕ} {g : Geometry} (z : ℕ) (a : ReadableFrom m g z) where
   pub starts-past : g .zones ≤ z → Starts m g z (walk z 0 0)
   starts-past h = record {
-    stands = record { passing = λ k. absurd (omega arith); inside = λ k. absurd (omega arith) };
+    stands = record { ahead = a; passing = λ k. absurd (omega arith); inside = λ k. absurd (omega arith) };
     all = λ to l. none-remain m g to (walk z 0 0) (omega arith) ∙ sym (from-none m g to z (omega arith));
   }
 
   pub starts-at : z < g .zones → (at chain : ℕ) → at ≡ firstBit z → chain ≡ onward 8 (linkIn (zoneBlock g m z)) → Starts m g z (walk z at chain)
   starts-at h at chain ea ec =
-      let s = zone-reads a z h in
+      let s = zone-sound a z (omega arith) h in
       let r : readFrom (g .idlen) at (endBit g) chain (byteBits (zoneBlock g m z)) ≡ some (entriesIn g z (zoneBlock g m z)) =
       (λ i. readFrom (g .idlen) (ea i) (endBit g) (ec i) (byteBits (zoneBlock g m z))) ∙ zone-read s in
       let l : at < endBit g = omega (arith, first-high z, a .numbers .bits-low, a .numbers .shortest-low) in
@@ -85,7 +85,7 @@ module _ {m : List ℕ} {g : Geometry} (a : AcceptedMap m g) (z : ℕ) where
         readable = subst⁻¹ (λ (x : Option (List Entry)). CanRead x) r tt;
       } in
       record {
-        stands = record { passing = λ k. p; inside = λ k. l };
+        stands = record { ahead = a; passing = λ k. p; inside = λ k. l };
         all = λ to u. by-test (ltb z to)
             (λ t. let k = ltb-true z to t in
             here-remain m g to (walk z at chain) k
@@ -96,8 +96,8 @@ module _ {m : List ℕ} {g : Geometry} (a : AcceptedMap m g) (z : ℕ) where
 
 -- a place after a fragment: at a fragment, or at the zone's end
 module _ {m : List ℕ} {g : Geometry} {w : Walk} (p : Passing m g w) where
-  pub settles-here : w .at < endBit g → Settles m g w w
-  settles-here h = record { stands = record { passing = λ k. p; inside = λ k. h }; same = λ to u k. refl }
+  pub settles-here : ReadableFrom m g (w .zone) → w .at < endBit g → Settles m g w w
+  settles-here a h = record { stands = record { ahead = a; passing = λ k. p; inside = λ k. h }; same = λ to u k. refl }
 
   pub settles-next : endBit g ≤ w .at → (z : ℕ) → z ≡ w .zone + 1 → (r : Walk) → Starts m g z r → Settles m g w r
   settles-next h z ez r s =
@@ -117,12 +117,15 @@ holder-number : (b : Bool) (id : ℕ) → holderNumber (cond b free (owned id)) 
 holder-number true id = refl
 holder-number false id = refl
 
-module _ {m : List ℕ} {g : Geometry} (a : AcceptedMap m g) {w : Walk} (h : w .zone < g .zones) (s : Stands m g w) where
+module _ {m : List ℕ} {g : Geometry} {w : Walk} (h : w .zone < g .zones) (s : Stands m g w) where
+  abbrev a : ReadableFrom m g (w .zone)
+  a = s .ahead
+
   abbrev bits : List Bool
   bits = byteBits (zoneBlock g m (w .zone))
 
   pub in-bits : endBit g ≤ length (zoneBlock g m (w .zone)) * 8
-  in-bits = omega (arith, zone-reads a (w .zone) h .sized, a .numbers .bits-in-block)
+  in-bits = omega (arith, zone-sound a (w .zone) (omega arith) h .sized, a .numbers .bits-in-block)
 
   pub closes-here : w .at + lengthAt (g .idlen) (w .at) (endBit g) bits ≤ endBit g
   closes-here =

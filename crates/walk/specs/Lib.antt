@@ -1,2 +1,4 @@
 pub mod SoundZone
 pub mod Remaining
+pub mod HeldBy
+pub mod Touching

@@ -9,6 +9,7 @@ use Rattle.model.specs.Chain.{Entry}
 use Rattle.model.specs.Rules.{zoneBlock}
 use Rattle.fragment.specs.Reading.{readFrom, CanRead, entriesSome}
 use Rattle.zone.specs.Lines.{entriesIn, holderNumber}
+use Rattle.map.specs.Accepted.{ReadableFrom}
 use Rattle.walk.specs.declared.Walk.{Walk}
 use Rattle.walk.specs.declared.Line.{Line}
 use Rattle.walk.specs.declared.Step.{Step}
@@ -42,8 +43,9 @@ pub record Passing (m : List ℕ) (g : Geometry) (w : Walk) : Type 0 where
   pub high : w .at ≤ endBit g
   pub readable : CanRead (readFrom (g .idlen) (w .at) (endBit g) (w .chain) (byteBits (zoneBlock g m (w .zone))))
 
--- at a fragment, or past the last zone
+-- at a fragment, or past the last zone; this zone and all after it can be read
 pub record Stands (m : List ℕ) (g : Geometry) (w : Walk) : Type 0 where
+  pub ahead : ReadableFrom m g (w .zone)
   pub passing : w .zone < g .zones → Passing m g w
   pub inside : w .zone < g .zones → w .at < endBit g
 

@@ -1,12 +1,16 @@
-// The one walk over the fragments of an accepted map, by value: a place among the fragments, and a step from one to the next. A zone's
+// The one walk over the fragments of a map whose zones can be read, by value: a place among the fragments, and a step from one to the next. A zone's
 // end leads on to the next zone, so a caller's loop over a map is one loop over fragments.
+use bits::both;
 use fragment::next_after;
 use geometry::BlockBit;
 use geometry::Geometry;
 ghost use mathlib.Core.Path.{_≡_};
 ghost use mathlib.Core.Bool.{cond};
 ghost use Prim.Native.Nat.{_<_};
-ghost use Rattle.map.specs.Accepted.{AcceptedMap};
+ghost use Rattle.model.specs.Chain.{touching};
+ghost use Rattle.model.specs.Shown.{zonesOf};
+ghost use Rattle.map.specs.Accepted.{ReadableFrom, AcceptedMap};
+ghost use Rattle.walk.specs.Touching.{touchingOf};
 ghost use Rattle.walk.specs.Remaining.{Stands, Passing, Starts, Advances, Settles};
 
 // Where a walk stands: at the fragment that starts at block bit `at` of a zone, where the free chain leads next to block bit `chain`, or
@@ -33,7 +37,7 @@ pub struct Step {
 
 // A walk that stands at the first fragment of zone z, or past the last zone.
 pub fn from_zone(map: &[u8], g: Geometry, z: usize) -> Walk
-    requires { ⌜ AcceptedMap (now map) g ⌝ }
+    requires { ⌜ ReadableFrom (now map) g z ⌝ }
     ensures { λ r. ⌜ Starts (now (map .entry)) g z r ⌝ }
 {
     if g.zones <= z {
@@ -52,7 +56,7 @@ pub fn from_zone(map: &[u8], g: Geometry, z: usize) -> Walk
 
 // The fragment at which a walk stands, and the place after it.
 pub fn next(map: &[u8], g: Geometry, w: Walk) -> Step
-    requires { ⌜ AcceptedMap (now map) g × (w .zone < g .zones) × Stands (now map) g w ⌝ }
+    requires { ⌜ (w .zone < g .zones) × Stands (now map) g w ⌝ }
     ensures { λ r. ⌜ Advances (now (map .entry)) g w r ⌝ }
 {
     let z = w.zone;
@@ -78,7 +82,7 @@ pub fn next(map: &[u8], g: Geometry, w: Walk) -> Step
 
 // A place after a fragment as one at a fragment: at the zone's end the walk goes on to the next zone.
 fn settled(map: &[u8], g: Geometry, w: Walk) -> Walk
-    requires { ⌜ AcceptedMap (now map) g × (w .zone < g .zones) × Passing (now map) g w ⌝ }
+    requires { ⌜ ReadableFrom (now map) g (w .zone) × (w .zone < g .zones) × Passing (now map) g w ⌝ }
     ensures { λ r. ⌜ Settles (now (map .entry)) g w r ⌝ }
 {
     if w.at < g.zone_end().0 {
@@ -92,4 +96,32 @@ fn holder(free: bool, id: u32) -> u32
     ensures { λ r. ⌜ r ≡ cond free 0 id ⌝ }
 {
     if free { 0 } else { id }
+}
+
+// The lowest zone in which two free fragments touch (refusal 9).
+pub enum Touching {
+    None,
+    Zone(u32),
+}
+
+pub fn first_touching(map: &[u8], g: Geometry) -> Touching
+    requires { ⌜ AcceptedMap (now map) g ⌝ }
+    ensures { λ r. ⌜ r ≡ touchingOf (touching 0 (zonesOf (now (map .entry)))) ⌝ }
+{
+    let zones = g.zones;
+    let mut z = 0;
+    let mut free = false;
+    let mut w = from_zone(map, g, 0);
+    while w.zone < zones {
+        let s = next(map, g, w);
+        let line = s.line;
+        let now_free = line.holder == 0;
+        if both(both(free, now_free), line.zone == z) {
+            return Touching::Zone(line.zone as u32);
+        }
+        z = line.zone;
+        free = now_free;
+        w = s.after;
+    }
+    Touching::None
 }

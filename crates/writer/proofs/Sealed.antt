@@ -15,7 +15,7 @@ use Rattle.checks.specs.Words.{zoneCheck}
 use Rattle.fragment.proofs.Answers.{drop-take}
 use Rattle.model.specs.Pieces.{Piece}
 use Rattle.model.specs.Drawing.{draw, linkOf}
-use Rattle.runs.specs.Written.{newBits, sealed, written}
+use Rattle.edits.specs.Written.{newBits, sealed, written}
 use Rattle.writer.specs.Redraw.{Redrawn}
 
 -- the three bytes that `seal` stores before the check byte

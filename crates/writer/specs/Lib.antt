@@ -1,3 +1,4 @@
-pub mod ZoneEdit
 pub mod Redraw
-pub mod Merge
+pub mod Parts
+pub mod Listed
+pub mod Edited

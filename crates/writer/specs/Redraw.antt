@@ -1,24 +1,13 @@
--- A zone's bits from a place on: how they are read, and how they are drawn anew. The places are block bits. Assumes nothing.
+-- A zone's bits from a place on, drawn anew. The places are block bits. Assumes nothing.
 use mathlib.Core.Path.{_≡_}
 use mathlib.Core.Bool.{Bool, cond}
 use mathlib.Core.List.{List, [], _++_}
-use mathlib.Core.Option.{Option, none, some}
-use Prim.Native.Nat.{ℕ, _+_, _*_, _^_, _<_, _≤_}
+use Prim.Native.Nat.{ℕ, _*_, _^_, _<_, _≤_}
 use lib.Dec.{ltb}
 use lib.ListN.{take, drop}
-use Rattle.fragment.specs.Reading.{readFrom}
 use Rattle.model.specs.Fragments.{fragmentBits}
-use Rattle.model.specs.Chain.{Entry}
-use Rattle.model.specs.Pieces.{Piece, ownedOf}
+use Rattle.model.specs.Pieces.{Piece}
 use Rattle.model.specs.Drawing.{GapRoom, gap, firstFree, draw}
-
--- and their owned pieces
-abbrev pub ownedIn : Option (List Entry) → List Piece
-ownedIn none = []
-ownedIn (some es) = ownedOf es
-
-abbrev pub piecesFrom : ℕ → ℕ → ℕ → ℕ → List Bool → List Piece
-piecesFrom idlen at end chain bits = ownedIn (readFrom idlen at end chain bits)
 
 -- a zone whose bits end at `end`, in a block of n bytes
 pub record ZoneBits (n idlen end : ℕ) : Type 0 where

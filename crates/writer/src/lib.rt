@@ -1,138 +1,360 @@
-// The block writer: one routine for release, place and claim (document 01, "Each edit writes only the blocks of the zones it
-// touches"). It is lent a zone's block from the middle of the map and writes check byte, FreeLink, cross check and allocation
-// bits, and nothing else.
+// Edits a map: one routine for release, place and claim (document 01, "Each edit writes only the blocks of the zones it touches").
 //
-// `redraw` reads a fragment, has the rest of the zone drawn first, and then draws its own piece and the gap before it. So
-// everything is read before the first write, and where the next gap starts is the answer of the call for the rest: no second
-// copy of the block, no list of pieces, no patching.
+// Of each zone that the edit touches it makes the list of the pieces that there are after it, and draws the zone from that list:
+// `pieces_after` walks the zone and merges the listed pairs in, `draw_zone` is lent the zone's block from the middle of the map and
+// writes check byte, FreeLink, cross check and allocation bits, and nothing else. A piece in such a list has three numbers: owner,
+// disc bit, length.
+//
+// The pairs of an edit are in object order: first those from the start zone on, ascending, then those of the zones before it,
+// ascending. So the pairs of each zone stand together, and a pass over the zones from 0 on finds them one part after another: it
+// starts with the pairs before the start zone, and goes back to entry 0 when it comes to the start zone.
 use geometry::DiscBit;
 use geometry::Geometry;
 ghost use mathlib.Core.Path.{_≡_};
-ghost use mathlib.Core.List.{_++_};
-ghost use Prim.Native.Nat.{suc, _+_, _-_, _*_, _^_, _<_, _≤_, _%_};
+ghost use mathlib.Core.Bool.{cond, _&&_};
+ghost use mathlib.Core.List.{List, _++_, map};
+ghost use Prim.Native.Nat.{ℕ, suc, _+_, _-_, _*_, _/_, _%_, _^_, _<_, _≤_};
+ghost use lib.Dec.{eqb, ltb};
 ghost use lib.ListN.{length, take, drop};
 ghost use lib.Bits.{bitXor};
 ghost use Rattle.bits.specs.Bits.{byteBits, numberBits};
-ghost use Rattle.checks.specs.Cross.{crossOf};
+ghost use Rattle.checks.specs.Cross.{crossOf, touchedCount};
+ghost use Rattle.geometry.specs.Accepted.{AcceptedGeometry};
 ghost use Rattle.geometry.specs.Places.{firstBit, endBit};
 ghost use Rattle.model.specs.Fragments.{closed};
-ghost use Rattle.calls.specs.Judge.{pairsFrom};
-ghost use Rattle.runs.specs.Written.{sealed, written};
-ghost use Rattle.writer.specs.ZoneEdit.{editedPieces, ZoneEdit};
+ghost use Rattle.model.specs.Pieces as model;
+ghost use Rattle.model.specs.Rules.{zoneBlock};
+ghost use Rattle.map.specs.Accepted.{ReadableFrom};
+ghost use Rattle.edits.specs.Edits.{without, touchedZones};
+ghost use Rattle.edits.specs.Judge.{pairsFrom};
+ghost use Rattle.edits.specs.Written.{toBlock, sealed, written};
+ghost use Rattle.writer.specs.Parts.{Ordered, leading, IsPart, PassAt, pairIn};
 ghost use Rattle.writer.specs.Redraw.{GapAsks, GapDrawn, Redrawn};
-ghost use Rattle.writer.specs.Merge.{firstStretch, ReadableFrom, PassedOver, Stays, mergedFrom, RedrawAsks};
+ghost use Rattle.writer.specs.Listed.{pieceIn, piecesFrom, blockPieces, withPiece, Merging, PiecesAsk, ZoneDrawing};
+ghost use Rattle.writer.specs.Edited.{ownedInZone, piecesAfter, PartAsks, ZoneEdit, zonePut, zoneAfter, editOf, EditAsks, editedMap};
 
-// Zone z of an edit: the pieces of `gone` leave it (0 for none), the pairs of `list` come as pieces of `id`, and its cross check
-// changes by `change`.
-pub fn edit_zone(
-    block: &mut [u8],
-    z: usize,
+// In the zones where the listed pairs lie the pieces of `gone` leave (0 for none), and the pairs come as pieces of `id` (0: none
+// come, as in a release). `buffer` has room for a zone's pieces.
+pub fn edit_map(map: &mut [u8], g: Geometry, gone: u32, list: &[u32], id: u32, buffer: &mut [u32])
+    requires { ⌜ EditAsks (now map) g gone (now list) id × (4096 ≤ length (now buffer)) ⌝ }
+    ensures { λ _. ⌜ now (map .exit) ≡ editedMap (now (map .entry)) (editOf gone (pairsFrom (now (list .entry))) id) ⌝ }
+{
+    let zones = g.zones;
+    let touched = touched_zones(g, list);
+    let mut part = first_part(g, list);
+    let mut k = 0;
+    let mut z = 0;
+    while z < zones {
+        part = next_part(g, list, z, part);
+        let from = part.from;
+        let to = part.to;
+        let change = checks::cross_change(touched, k);
+        edit_zone(map, g, z, gone, &list[from..to], id, change, buffer);
+        k += bits::one(from < to) as usize;
+        z += 1;
+    }
+}
+
+// In how many zones listed pairs lie: the rule for the cross checks asks for it before the first zone is written.
+fn touched_zones(g: Geometry, list: &[u32]) -> usize
+    requires { ⌜ AcceptedGeometry g × Ordered g (now list) ⌝ }
+    ensures { λ r. ⌜ r ≡ touchedCount (touchedZones g (pairsFrom (now (list .entry)))) ⌝ }
+{
+    let zones = g.zones;
+    let mut part = first_part(g, list);
+    let mut n = 0;
+    let mut z = 0;
+    while z < zones {
+        part = next_part(g, list, z, part);
+        n += bits::one(part.from < part.to) as usize;
+        z += 1;
+    }
+    n
+}
+
+// Zone z of an edit, with its part of the list. A zone without pairs is neither read nor written.
+fn edit_zone(
+    map: &mut [u8],
     g: Geometry,
+    z: usize,
     gone: u32,
     list: &[u32],
     id: u32,
     change: u8,
+    buffer: &mut [u32],
 )
-    requires { ⌜ ZoneEdit g z (now block) gone (now list) id ⌝ }
-    ensures { λ _. ⌜ now (block .exit) ≡ written (g .idlen) (firstBit z) (endBit g) (editedPieces g z (now (block .entry)) gone (now (list .entry)) id) (bitXor (crossOf (now (block .entry))) change) (now (block .entry)) ⌝ }
+    requires { ⌜ ZoneEdit (now map) g z gone (now list) id (length (now buffer)) ⌝ }
+    ensures { λ _. ⌜ now (map .exit) ≡ zonePut g z (now (map .entry)) (zoneAfter g z gone (now (list .entry)) id change (zoneBlock g (now (map .entry)) z)) ⌝ }
+{
+    if list.len() == 0 {
+        return;
+    }
+    let n = pieces_after(map, g, z, gone, list, id, buffer);
+    let a = z * g.sector;
+    let e = a + g.sector;
+    draw_zone(&mut map[a..e], z, g, buffer, n, change);
+}
+
+// The pieces of zone z without those of `gone`, and with the listed ones of `id` put in: into `buffer`. Answers how many. They may
+// overlap, so that a place can be judged by them.
+pub fn pieces_after(
+    map: &[u8],
+    g: Geometry,
+    z: usize,
+    gone: u32,
+    list: &[u32],
+    id: u32,
+    buffer: &mut [u32],
+) -> usize
+    requires { ⌜ PartAsks (now map) g z (now list) id (length (now buffer)) ⌝ }
+    ensures { λ r. ⌜ (3 * r ≤ length (now (buffer .entry))) × (piecesFrom (now (buffer .exit)) 0 r ≡ piecesAfter gone id (pairsFrom (now (list .entry))) (ownedInZone g z (zoneBlock g (now (map .entry)) z))) ⌝ }
+{
+    let n = staying(map, g, z, gone, buffer);
+    if id == 0 {
+        return n;
+    }
+    merge_pairs(buffer, n, list, id);
+    n + list.len() / 2
+}
+
+// The pieces of zone z without those of `gone`. Each line is stored after those that stay, and counts if it stays too. A zone has
+// at most 682 lines.
+fn staying(map: &[u8], g: Geometry, z: usize, gone: u32, buffer: &mut [u32]) -> usize
+    requires { ⌜ ReadableFrom (now map) g z × (z < g .zones) × (2048 ≤ length (now buffer)) ⌝ }
+    ensures { λ r. ⌜ (3 * r ≤ 2048) × (piecesFrom (now (buffer .exit)) 0 r ≡ without gone (ownedInZone g z (zoneBlock g (now (map .entry)) z))) ⌝ }
+{
+    let mut n = 0;
+    let mut w = walk::from_zone(map, g, z);
+    while w.zone <= z {
+        let s = walk::next(map, g, w);
+        let line = s.line;
+        put_piece(
+            buffer,
+            n,
+            Piece {
+                owner: line.holder,
+                start: line.start,
+                len: line.len,
+            },
+        );
+        n += bits::one(bits::both(line.holder != 0, line.holder != gone)) as usize;
+        w = s.after;
+    }
+    n
+}
+
+// Merges the pairs of a list into n pieces, as pieces of `id`, in place: what starts last goes last.
+fn merge_pairs(pieces: &mut [u32], n: usize, list: &[u32], id: u32)
+    requires { ⌜ 3 * (n + length (now list) / 2) ≤ length (now pieces) ⌝ }
+    ensures { λ _. ⌜ ((all : List model.Piece) → Merging id (now (list .entry)) (now (pieces .entry)) n (length (now (list .entry)) / 2) (n + length (now (list .entry)) / 2) all → all ≡ piecesFrom (now (pieces .exit)) 0 (n + length (now (list .entry)) / 2)) ⌝ }
+{
+    let mut i = n;
+    let mut j = list.len() / 2;
+    while 0 < j {
+        let left = move_last(pieces, i, list, j, id);
+        i = left.pieces;
+        j = left.pairs;
+    }
+}
+
+// What is left of a merge: so many pieces, and so many pairs.
+struct Left {
+    pieces: usize,
+    pairs: usize,
+}
+
+// Moves the last of i pieces or of j pairs to its place, whichever starts last.
+fn move_last(pieces: &mut [u32], i: usize, list: &[u32], j: usize, id: u32) -> Left
+    requires { ⌜ (0 < j) × (3 * (i + j) ≤ length (now pieces)) × (2 * j ≤ length (now list)) ⌝ }
+    ensures fewer { λ r. ⌜ (r .pieces + r .pairs + 1 ≡ i + j) × (r .pairs ≤ j) ⌝ }
+    ensures same { λ r. ⌜ ((n : ℕ) (all : List model.Piece) → Merging id (now (list .entry)) (now (pieces .entry)) i j n all → Merging id (now (list .entry)) (now (pieces .exit)) (r .pieces) (r .pairs) n all) ⌝ }
+{
+    let last = j - 1;
+    let q = pair_at(list, 2 * last);
+    if starts_after(pieces, i, q.start) {
+        let top = i - 1;
+        let x = piece_at(pieces, top);
+        put_piece(pieces, i + last, x);
+        return Left {
+            pieces: top,
+            pairs: j,
+        };
+    }
+    put_piece(
+        pieces,
+        i + last,
+        Piece {
+            owner: id,
+            start: q.start,
+            len: q.len,
+        },
+    );
+    Left {
+        pieces: i,
+        pairs: last,
+    }
+}
+
+// Whether there are pieces and the last of i starts after disc bit `start`.
+fn starts_after(pieces: &[u32], i: usize, start: u32) -> bool
+    requires { ⌜ 3 * i ≤ length (now pieces) ⌝ }
+    ensures { λ r. ⌜ r ≡ (ltb 0 i && ltb start (pieceIn (now (pieces .entry)) (i - 1) .start)) ⌝ }
+{
+    if i == 0 {
+        return false;
+    }
+    let last = piece_at(pieces, i - 1);
+    start < last.start
+}
+
+// A piece in a list of pieces.
+pub struct Piece {
+    pub owner: u32,
+    pub start: u32, // the disc bit
+    pub len: u32,
+}
+
+// Piece i.
+pub fn piece_at(pieces: &[u32], i: usize) -> Piece
+    requires { ⌜ 3 * i + 3 ≤ length (now pieces) ⌝ }
+    ensures { λ r. ⌜ r ≡ pieceIn (now (pieces .entry)) i ⌝ }
+{
+    Piece {
+        owner: pieces[3 * i],
+        start: pieces[3 * i + 1],
+        len: pieces[3 * i + 2],
+    }
+}
+
+// Piece i becomes x.
+fn put_piece(pieces: &mut [u32], i: usize, x: Piece)
+    requires { ⌜ 3 * i + 3 ≤ length (now pieces) ⌝ }
+    ensures { λ _. ⌜ now (pieces .exit) ≡ withPiece (now (pieces .entry)) i x ⌝ }
+{
+    pieces[3 * i] = x.owner;
+    pieces[3 * i + 1] = x.start;
+    pieces[3 * i + 2] = x.len;
+}
+
+// A pair of a list that is handed in: disc bit, length.
+pub struct Pair {
+    pub start: u32,
+    pub len: u32,
+}
+
+// The pair at entry i.
+pub fn pair_at(list: &[u32], i: usize) -> Pair
+    requires { ⌜ i + 2 ≤ length (now list) ⌝ }
+    ensures { λ r. ⌜ r ≡ pairIn (now (list .entry)) i ⌝ }
+{
+    Pair {
+        start: list[i],
+        len: list[i + 1],
+    }
+}
+
+// The pairs of one zone: the part of a list from an entry to the one after its last. `start` is the zone of the list's first pair.
+pub struct Part {
+    pub start: usize,
+    pub from: usize,
+    pub to: usize,
+}
+
+// Before zone 0: the pairs of the zones before the start zone come first.
+pub fn first_part(g: Geometry, list: &[u32]) -> Part
+    requires { ⌜ AcceptedGeometry g × Ordered g (now list) ⌝ }
+    ensures { λ r. ⌜ PassAt g (now (list .entry)) (r .start) 0 (r .to) ⌝ }
+{
+    let first = pair_at(list, 0);
+    let start = g.zone_of(DiscBit(first.start as usize));
+    let to = part_end(list, 0, g.first_disc_bit(start).0, g.disc_bits());
+    Part {
+        start,
+        from: to,
+        to,
+    }
+}
+
+// The pairs of zone z, where `before` are those of the zone before it.
+pub fn next_part(g: Geometry, list: &[u32], z: usize, before: Part) -> Part
+    requires { ⌜ AcceptedGeometry g × (z < g .zones) × PassAt g (now list) (before .start) z (before .to) ⌝ }
+    ensures { λ r. ⌜ IsPart g (now (list .entry)) z (r .from) (r .to) × PassAt g (now (list .entry)) (r .start) (z + 1) (r .to) ⌝ }
+{
+    let start = before.start;
+    let from = part_start(z, start, before.to);
+    let low = g.first_disc_bit(z).0;
+    let high = g.first_disc_bit(z + 1).0;
+    let to = part_end(list, from, low, high);
+    Part { start, from, to }
+}
+
+// The pass goes back to entry 0 at the start zone.
+fn part_start(z: usize, start: usize, i: usize) -> usize
+    ensures { λ r. ⌜ r ≡ cond (eqb z start) 0 i ⌝ }
+{
+    if z == start {
+        return 0;
+    }
+    i
+}
+
+// The entry after the pairs from entry i on that start from disc bit `low` on and before `high`.
+fn part_end(list: &[u32], i: usize, low: usize, high: usize) -> usize
+    requires { ⌜ (length (now list) % 2 ≡ 0) × (i % 2 ≡ 0) × (i ≤ length (now list)) ⌝ }
+    ensures { λ r. ⌜ (r ≡ i + 2 * length (leading low high (pairsFrom (drop i (now (list .entry)))))) × (r ≤ length (now (list .entry))) ⌝ }
+{
+    let mut j = i;
+    while j < list.len() {
+        let q = pair_at(list, j);
+        let bit = q.start as usize;
+        if !bits::both(low <= bit, bit < high) {
+            return j;
+        }
+        j += 2;
+    }
+    j
+}
+
+// Draws zone z: the first n of `pieces` as its pieces, a free fragment in every gap, FreeLink, the cross check changed by
+// `change`, and the zone check.
+pub fn draw_zone(block: &mut [u8], z: usize, g: Geometry, pieces: &[u32], n: usize, change: u8)
+    requires { ⌜ ZoneDrawing g z (now block) (now pieces) n ⌝ }
+    ensures { λ _. ⌜ now (block .exit) ≡ written (g .idlen) (firstBit z) (endBit g) (map (toBlock g z) (piecesFrom (now (pieces .entry)) 0 n)) (bitXor (crossOf (now (block .entry))) change) (now (block .entry)) ⌝ }
 {
     let start = g.zone_first(z).0;
     let end = g.zone_end().0;
     let low = z * g.bits;
-    let plan = Plan {
-        end,
-        idlen: g.idlen,
-        gone,
-        low,
-        id,
-    };
-    let chain = zone::first_free(block);
-    let first = redraw(block, list, 0, start, start, chain, plan);
+    let first = draw_pieces(block, start, end, low, g.idlen, pieces, n);
     seal(block, first, change);
 }
 
-// What stays the same while a zone is redrawn.
-struct Plan {
-    end: usize, // the block bit where the zone ends
-    idlen: usize, // the bits of an id
-    gone: u32, // the object whose pieces go
-    low: usize, // z*Z of the zone
-    id: u32, // the object to which the listed pairs come
-}
-
-// A reader's place in a zone: the block bit that it has come to, and where the chain leads next.
-struct Standing {
-    at: usize,
-    chain: usize,
-}
-
-// A stretch of block bits.
-struct Stretch {
-    start: usize,
-    len: usize,
-}
-
-// Draws the zone's bits from `hole` on anew: the pieces that stand from `at` on, without those of `gone`, and the listed pairs
-// from entry j on. Between `hole` and `at` none but listed pieces start. Answers where the first gap starts, or 0.
-fn redraw(
+// Draws the first n of `pieces`, from the last to the first, with the gap after each. Answers where the first gap starts,
+// or 0.
+fn draw_pieces(
     block: &mut [u8],
-    list: &[u32],
-    j: usize,
-    hole: usize,
-    at: usize,
-    chain: usize,
-    plan: Plan,
+    start: usize,
+    end: usize,
+    low: usize,
+    idlen: usize,
+    pieces: &[u32],
+    n: usize,
 ) -> usize
-    requires { ⌜ RedrawAsks (now block) (now list) j hole at chain plan ⌝ }
-    ensures { λ r. ⌜ Redrawn (plan .idlen) hole (plan .end) (mergedFrom (now (block .entry)) (now (list .entry)) j at chain plan) (byteBits (now (block .entry))) (byteBits (now (block .exit))) r ⌝ }
+    requires { ⌜ PiecesAsk (length (now block)) start end low idlen (now pieces) n ⌝ }
+    ensures { λ r. ⌜ Redrawn idlen start end (blockPieces low (now (pieces .entry)) 0 n) (byteBits (now (block .entry))) (byteBits (now (block .exit))) r ⌝ }
 {
-    let here = pass_over(block, at, chain, plan);
-    let listed = next_listed(list, j, plan.low, plan.end);
-    if listed.start < here.at {
-        let past = listed.start + listed.len;
-        let next = redraw(block, list, j + 2, past, here.at, here.chain, plan);
-        write_fragment(block, listed.start, listed.len, plan.id, plan.idlen);
-        return draw_gap(block, hole, listed.start, next, plan.idlen);
+    let mut i = n;
+    let mut to = end;
+    let mut next = 0;
+    while 0 < i {
+        i -= 1;
+        let x = piece_at(pieces, i);
+        let at = DiscBit(x.start as usize).block_bit(low).0;
+        let len = x.len as usize;
+        next = draw_gap(block, at + len, to, next, idlen);
+        write_fragment(block, at, len, x.owner, idlen);
+        to = at;
     }
-    if plan.end <= here.at {
-        return draw_gap(block, hole, plan.end, 0, plan.idlen);
-    }
-    let past = here.at + fragment::whole_fragment(block, here.at, plan.end, plan.idlen).len;
-    let next = redraw(block, list, j, past, past, here.chain, plan);
-    draw_gap(block, hole, here.at, next, plan.idlen)
-}
-
-// Passes over fragments that are free or of `gone`, up to a piece that stays or the zone's end. It is a loop, so that `redraw`
-// calls itself once for each piece that stays or comes, and no more.
-fn pass_over(block: &[u8], from: usize, first: usize, plan: Plan) -> Standing
-    requires { ⌜ ReadableFrom (now block) from first plan ⌝ }
-    ensures { λ r. ⌜ PassedOver (now (block .entry)) from first (r .at) (r .chain) plan × Stays (now (block .entry)) (r .at) (r .chain) plan ⌝ }
-{
-    let mut at = from;
-    let mut chain = first;
-    while at < plan.end {
-        let f = fragment::whole_fragment(block, at, plan.end, plan.idlen);
-        if bits::both(at != chain, f.id != plan.gone) {
-            return Standing { at, chain };
-        }
-        chain = fragment::next_after(at, chain, f.id as usize);
-        at += f.len;
-    }
-    Standing { at, chain }
-}
-
-// The pair at entry j of the list in the block bits of the zone, or no bits at `end` where the list has ended.
-fn next_listed(list: &[u32], j: usize, low: usize, end: usize) -> Stretch
-    requires { ⌜ (length (now list) % 2 ≡ 0) × (j % 2 ≡ 0) ⌝ }
-    ensures { λ r. ⌜ r ≡ firstStretch low end (pairsFrom (drop j (now (list .entry)))) ⌝ }
-{
-    if list.len() <= j {
-        return Stretch { start: end, len: 0 };
-    }
-    Stretch {
-        start: DiscBit(list[j] as usize).block_bit(low).0,
-        len: list[j + 1] as usize,
-    }
+    draw_gap(block, start, to, next, idlen)
 }
 
 // Draws a free fragment from `hole` to `to`, if there are bits between, that leads on to `next`. Answers where the first gap

@@ -10,14 +10,15 @@ use Rattle.fragment.proofs.Step.{fragmentOf}
 use Rattle.geometry.specs.declared.Geometry.{Geometry}
 use Rattle.model.specs.Fragments.{Fragment}
 use Rattle.model.specs.Chain.{free, owned, Entry, entry, onward, follow}
-use Rattle.model.specs.Check.{sound, zoneRead}
+use Rattle.model.specs.Answer.{answered}
+use Rattle.model.specs.Check.{zoneRead}
 use Rattle.model.proofs.Followed.{before-inv}
 use Rattle.zone.specs.Walk.{holderOf}
 use Rattle.zone.specs.Lines.{entriesOf, entriesIn, IsRead}
 
 -- a zone that was read has the entries that the reading gives
-pub is-read : (g : Geometry) (z : ℕ) (b : List ℕ) (es : List Entry) → zoneRead g z b ≡ sound es → (entriesIn g z b ≡ es) × IsRead g z b
-is-read g z b es e = let k : entriesIn g z b ≡ es = ap entriesOf e in (k, e ∙ ap sound (sym k))
+pub is-read : (g : Geometry) (z : ℕ) (b : List ℕ) (es : List Entry) → zoneRead g z b ≡ answered es → (entriesIn g z b ≡ es) × IsRead g z b
+is-read g z b es e = let k : entriesIn g z b ≡ es = ap entriesOf e in (k, e ∙ ap answered (sym k))
 
 -- the first entry of a chain
 pub chain-parts : (at next id len : ℕ) (fs : List Fragment) (es : List Entry) → follow at next (fragmentOf id len ∷ fs) ≡ some es

@@ -4,19 +4,20 @@ use mathlib.Core.List.{List, []}
 use Prim.Native.Nat.{ℕ}
 use Rattle.geometry.specs.declared.Geometry.{Geometry}
 use Rattle.model.specs.Chain.{Holder, free, owned, Entry}
-use Rattle.model.specs.Check.{ZoneRead, fault, sound, zoneRead}
+use Rattle.model.specs.Answer.{Answer, refused, answered}
+use Rattle.model.specs.Check.{zoneRead}
 
 -- the entries of a zone that was read
-abbrev pub entriesOf : ZoneRead → List Entry
-entriesOf (fault n) = []
-entriesOf (sound es) = es
+abbrev pub entriesOf : Answer (List Entry) → List Entry
+entriesOf (refused n i) = []
+entriesOf (answered es) = es
 
 abbrev pub entriesIn : Geometry → ℕ → List ℕ → List Entry
 entriesIn g z block = entriesOf (zoneRead g z block)
 
 -- the zone keeps the rules
 abbrev pub IsRead : Geometry → ℕ → List ℕ → Type 0
-IsRead g z block = zoneRead g z block ≡ sound (entriesIn g z block)
+IsRead g z block = zoneRead g z block ≡ answered (entriesIn g z block)
 
 abbrev pub holderNumber : Holder → ℕ
 holderNumber free = 0

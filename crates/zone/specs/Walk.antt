@@ -1,11 +1,13 @@
 -- One fragment of a zone judged, and the walker's answer. Assumes nothing.
 use mathlib.Core.Bool.{Bool, cond, not, _&&_, _||_}
+use mathlib.Core.List.{List}
 use Prim.Native.Nat.{ℕ, _/_}
 use lib.Dec.{eqb, leb}
 use Rattle.geometry.specs.declared.Geometry.{Geometry}
 use Rattle.geometry.specs.Places.{discBit}
-use Rattle.model.specs.Chain.{Holder, free, owned}
-use Rattle.model.specs.Check.{ZoneRead, fault, sound, isOwned, holderFits}
+use Rattle.model.specs.Chain.{Holder, free, owned, Entry}
+use Rattle.model.specs.Answer.{Answer, refused, answered}
+use Rattle.model.specs.Check.{isOwned, holderFits}
 use Rattle.zone.specs.declared.ZoneVerdict.{ZoneVerdict}
 use Rattle.zone.specs.declared.ZoneVerdict.the-variants.{Kept, Broken}
 
@@ -24,6 +26,6 @@ abbrev pub entryHolds : Geometry → ℕ → Bool → ℕ → Holder → Bool
 entryHolds g z first to h = (holderFits g h && endHolds g z to h) && firstHolds g z first h
 
 -- the walker's answer for a zone read
-abbrev pub verdictOf : ZoneRead → ZoneVerdict
-verdictOf (fault n) = Broken n
-verdictOf (sound es) = Kept
+abbrev pub verdictOf : Answer (List Entry) → ZoneVerdict
+verdictOf (refused n i) = Broken n
+verdictOf (answered es) = Kept

@@ -4,10 +4,6 @@
 //!
 //! `--quick` makes one round, to see that all of it runs.
 
-// It declares calls that are not timed, too.
-#[allow(dead_code)]
-#[path = "../../../rust/src/declared.rs"]
-mod declared;
 mod maps;
 mod sides;
 mod timing;

@@ -1,9 +1,9 @@
 //! One call, made by the product or by the reference.
 
+use product::{call, Answer};
 use reference::case::{Call, Case};
 use reference::{edit, map, read, Refusal};
 
-use crate::declared::*;
 use crate::maps::WINDOW;
 
 /// What a call is lent. The same bytes serve every round, as new ones would
@@ -36,53 +36,12 @@ impl Lent {
     }
 }
 
-/// The refusal's number and zone, and up to three values.
-#[derive(Clone, Copy, Debug, PartialEq, Eq)]
-pub struct Answer {
-    pub number: u32,
-    pub zone: u32,
-    pub values: [u64; 3],
-}
-
 /// A way to make a call.
 pub type Side = fn(&Case, &mut Lent) -> Answer;
 
 /// The call as the product makes it.
 pub fn product(case: &Case, lent: &mut Lent) -> Answer {
-    let (map, map_len) = (lent.map.as_mut_ptr(), lent.map.len());
-    let (list, list_len) = (lent.list.as_mut_ptr(), lent.list.len());
-    let (image, image_len) = (lent.image.as_mut_ptr(), lent.image.len());
-    let (wide, fill, id) = (case.wide, case.fill, case.number);
-    let (mut zone, mut value) = (0, 0);
-    let (mut new_id, mut start, mut length) = (0, 0, 0);
-    let (z, v) = (&mut zone, &mut value);
-    // SAFETY: each pointer and length come from one vector that outlives the
-    // call and is not otherwise used during it.
-    let number = unsafe {
-        match case.call {
-            Call::Check => shoalswift_check(map, map_len, z),
-            Call::List => shoalswift_list(map, map_len, id, list, list_len, v, z),
-            Call::Free => shoalswift_free(map, map_len, list, list_len, v, z),
-            Call::SweepFree => {
-                shoalswift_sweep_free(map, map_len, image, image_len, wide, fill, v, z)
-            }
-            Call::Release => shoalswift_release(map, map_len, id, list, list_len, v, z),
-            Call::Place => shoalswift_place(map, map_len, id, list, list_len, z),
-            Call::Claim => {
-                shoalswift_claim(map, map_len, wide, &mut new_id, &mut start, &mut length, z)
-            }
-            Call::Address | Call::SweepObject => unreachable!("not measured"),
-        }
-    };
-    let values = match case.call {
-        Call::Claim => [new_id, start, length].map(u64::from),
-        _ => [value, 0, 0],
-    };
-    Answer {
-        number,
-        zone,
-        values,
-    }
+    call(case, &mut lent.map, &mut lent.list, &mut lent.image)
 }
 
 /// The call as the reference makes it.

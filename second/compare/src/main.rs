@@ -1,5 +1,6 @@
 //! Runs many calls through the product and through the reference; every
-//! answer and every lent byte must agree.
+//! answer and every lent byte must agree, and so must the geometry of every
+//! map.
 //!
 //! SEEDS names the seeds: `N` for 0 to N-1, or `A..B` for A to B-1. If TRACE
 //! is set, each call is named before it is made, to find one that never
@@ -9,14 +10,13 @@
 use std::env;
 use std::process::ExitCode;
 
-#[path = "../../../rust/src/declared.rs"]
-mod declared;
 mod program;
 
-use declared::*;
+use product::Told;
 use program::Program;
 use reference::case::{Call, Case, Outcome, CALLS};
 use reference::generate::{play, Sizes};
+use reference::map::{check, CheckedMap};
 
 /// Guard bytes or entries before and after what is lent.
 const GUARD: usize = 72;
@@ -47,8 +47,8 @@ impl<T: Copy + PartialEq> Lent<T> {
         }
     }
 
-    fn pointer(&mut self) -> *mut T {
-        self.all[self.from..].as_mut_ptr()
+    fn slice(&mut self) -> &mut [T] {
+        &mut self.all[self.from..self.from + self.length]
     }
 
     fn contents(&self) -> Vec<T> {
@@ -68,108 +68,39 @@ fn run_product(case: &Case, shift: usize) -> (Outcome, bool) {
     let mut map = Lent::new(&case.map, 0xA5, shift);
     let mut list = Lent::new(&case.list, 0xA5A5_5A5A, 0);
     let mut image = Lent::new(&case.image, 0x5A, shift);
-    let (map_len, list_len, image_len) = (map.length, list.length, image.length);
-
-    // Every out-number must be written, so none starts at 0.
-    let mut zone = 0xDEAD_BEEFu32;
-    let mut value = 0xDEAD_BEEF_DEAD_BEEFu64;
-    let (mut id, mut start, mut length) = (zone, zone, zone);
-
-    // SAFETY: each pointer and length come from one vector that outlives the
-    // call and is not otherwise used during it.
-    let number = unsafe {
-        match case.call {
-            Call::Check => shoalswift_check(map.pointer(), map_len, &mut zone),
-            Call::List => shoalswift_list(
-                map.pointer(),
-                map_len,
-                case.number,
-                list.pointer(),
-                list_len,
-                &mut value,
-                &mut zone,
-            ),
-            Call::Free => shoalswift_free(
-                map.pointer(),
-                map_len,
-                list.pointer(),
-                list_len,
-                &mut value,
-                &mut zone,
-            ),
-            Call::Address => shoalswift_address(
-                map.pointer(),
-                map_len,
-                case.number,
-                case.wide,
-                &mut value,
-                &mut zone,
-            ),
-            Call::SweepObject => shoalswift_sweep_object(
-                map.pointer(),
-                map_len,
-                image.pointer(),
-                image_len,
-                case.wide,
-                case.fill,
-                case.number,
-                &mut value,
-                &mut zone,
-            ),
-            Call::SweepFree => shoalswift_sweep_free(
-                map.pointer(),
-                map_len,
-                image.pointer(),
-                image_len,
-                case.wide,
-                case.fill,
-                &mut value,
-                &mut zone,
-            ),
-            Call::Release => shoalswift_release(
-                map.pointer(),
-                map_len,
-                case.number,
-                list.pointer(),
-                list_len,
-                &mut value,
-                &mut zone,
-            ),
-            Call::Place => shoalswift_place(
-                map.pointer(),
-                map_len,
-                case.number,
-                list.pointer(),
-                list_len,
-                &mut zone,
-            ),
-            Call::Claim => shoalswift_claim(
-                map.pointer(),
-                map_len,
-                case.wide,
-                &mut id,
-                &mut start,
-                &mut length,
-                &mut zone,
-            ),
-        }
-    };
-
-    let values = match case.call {
-        Call::Check | Call::Place => vec![],
-        Call::Claim => vec![id as u64, start as u64, length as u64],
-        _ => vec![value],
-    };
+    let answer = product::call(case, map.slice(), list.slice(), image.slice());
     let outcome = Outcome {
-        number,
-        zone,
-        values,
+        number: answer.number,
+        zone: answer.zone,
+        values: answer.values[..case.call.values()].to_vec(),
         map: map.contents(),
         list: list.contents(),
         image: image.contents(),
     };
     let kept = map.guard_kept() && list.guard_kept() && image.guard_kept();
     (outcome, kept)
+}
+
+/// What the reference's own check tells of a map's record.
+fn geometry(map: &[u8]) -> Told {
+    match check(map) {
+        Ok(CheckedMap { geometry: g, .. }) => Told {
+            number: 0,
+            zone: 0,
+            numbers: [
+                g.sector_size as u64,
+                g.bytes_per_map_bit,
+                g.nzones as u64,
+                g.ids_per_zone as u64,
+                g.disc_size,
+            ],
+        },
+        Err(refusal) => Told {
+            number: refusal.number,
+            zone: refusal.zone,
+            numbers: [0; 5],
+        },
+    }
 }
 
 /// One difference, described, and how much was lent in its case.
@@ -242,20 +173,133 @@ fn seeds() -> Result<std::ops::Range<u64>, String> {
     }
 }
 
-fn print_table(compared: &[[u64; 18]; 10]) {
-    print!("{:12}", "call");
-    for number in 0..18 {
-        print!("{number:>7}");
-    }
-    println!("{:>9}", "all");
-    for call in CALLS {
-        let row = &compared[call as usize];
-        print!("{:12}", call.name());
-        for count in row {
-            print!("{count:>7}");
+/// What was compared so far, and what differed.
+struct Tally {
+    /// By call and by number.
+    compared: [[u64; 18]; 10],
+    /// Geometries, by number. Each map that comes up has its own told once.
+    geometries: [u64; 18],
+    last_map: Vec<u8>,
+    differences: u64,
+    smallest: Option<Difference>,
+}
+
+impl Tally {
+    fn new() -> Tally {
+        Tally {
+            compared: [[0; 18]; 10],
+            geometries: [0; 18],
+            last_map: Vec::new(),
+            differences: 0,
+            smallest: None,
         }
-        println!("{:>9}", row.iter().sum::<u64>());
     }
+
+    fn compare(&mut self, seed: u64, step: u64, case: &Case, ours: &Outcome) {
+        let (theirs, kept) = run_product(case, (step % 8) as usize);
+        self.compared[case.call as usize][ours.number as usize] += 1;
+        if *ours != theirs || !kept {
+            let size = case.map.len() + 4 * case.list.len() + case.image.len();
+            self.differ(size, || describe(seed, step, case, ours, &theirs, kept));
+        }
+    }
+
+    fn compare_geometry(&mut self, seed: u64, step: u64, map: &[u8]) {
+        if step > 0 && map == self.last_map {
+            return;
+        }
+        self.last_map = map.to_vec();
+        let ours = geometry(map);
+        let mut lent = Lent::new(map, 0xA5, (step % 8) as usize);
+        let theirs = product::geometry(lent.slice());
+        self.geometries[ours.number as usize] += 1;
+        if ours != theirs || lent.contents() != map || !lent.guard_kept() {
+            let of = format!("seed {seed}, the map of call {step} of it: geometry\n");
+            let text = format!("{of}  reference: {ours:?}\n  product: {theirs:?}\n");
+            self.differ(map.len(), || text);
+        }
+    }
+
+    /// Keeps the difference with the least lent, which is easiest to look at.
+    fn differ(&mut self, size: usize, text: impl FnOnce() -> String) {
+        self.differences += 1;
+        if !matches!(&self.smallest, Some(other) if other.size <= size) {
+            let text = text();
+            self.smallest = Some(Difference { size, text });
+        }
+    }
+
+    fn print_table(&self) {
+        print!("{:12}", "call");
+        for number in 0..18 {
+            print!("{number:>7}");
+        }
+        println!("{:>9}", "all");
+        print_row("geometry", &self.geometries);
+        for call in CALLS {
+            print_row(call.name(), &self.compared[call as usize]);
+        }
+    }
+
+    /// What is wrong with the whole run, in lines; none where all agree and
+    /// everything was reached.
+    fn complaints(&self) -> Vec<String> {
+        let mut lines = Vec::new();
+        if let Some(difference) = &self.smallest {
+            let first = format!("{} calls differ; the smallest:", self.differences);
+            lines.push(format!("{first}\n{}", difference.text.trim_end()));
+        }
+        for call in CALLS {
+            if self.compared[call as usize].iter().sum::<u64>() == 0 {
+                lines.push(format!("{} was never called", call.name()));
+            }
+        }
+        for number in (1..=17).filter(|number| *number != 14) {
+            if self.compared.iter().map(|row| row[number]).sum::<u64>() == 0 {
+                lines.push(format!("refusal {number} was never reached"));
+            }
+        }
+        for number in (0..=7).filter(|number| self.geometries[*number] == 0) {
+            lines.push(format!("no geometry was answered with {number}"));
+        }
+        lines
+    }
+}
+
+fn print_row(name: &str, counts: &[u64; 18]) {
+    print!("{name:12}");
+    for count in counts {
+        print!("{count:>7}");
+    }
+    println!("{:>9}", counts.iter().sum::<u64>());
+}
+
+/// Compares every call of the seeds, and some maps through the small program.
+fn compare(seeds: std::ops::Range<u64>, program: &mut Option<Program>) -> Tally {
+    let sizes = Sizes {
+        map: 130_048,
+        list: 200_000,
+        image: 65_536,
+    };
+    let trace = env::var_os("TRACE").is_some();
+    let mut tally = Tally::new();
+    for seed in seeds {
+        let mut step = 0;
+        play(seed, &sizes, &mut |case, ours| {
+            if trace {
+                eprintln!("seed {seed}, call {step} of it: {}", case.call.name());
+            }
+            if let (Some(program), 0, 0) = (program.as_mut(), step, seed % LISTED) {
+                let name = format!("the first map of seed {seed}");
+                let told = program.compare(&name, &case.map);
+                told.expect("the small program runs");
+            }
+            tally.compare_geometry(seed, step, &case.map);
+            tally.compare(seed, step, case, ours);
+            step += 1;
+        });
+    }
+    tally
 }
 
 fn main() -> ExitCode {
@@ -266,13 +310,6 @@ fn main() -> ExitCode {
             return ExitCode::from(2);
         }
     };
-    let sizes = Sizes {
-        map: 130_048,
-        list: 200_000,
-        image: 65_536,
-    };
-
-    let trace = env::var_os("TRACE").is_some();
     let mut program = env::var("MAP_LINES").ok().map(|path| Program {
         path,
         runs: 0,
@@ -282,56 +319,16 @@ fn main() -> ExitCode {
         program.compare_fixed().expect("the small program runs");
     }
 
-    let mut compared = [[0u64; 18]; 10];
-    let mut differences = 0u64;
-    let mut smallest: Option<Difference> = None;
-    for seed in seeds.clone() {
-        let mut step = 0;
-        play(seed, &sizes, &mut |case, ours| {
-            if trace {
-                eprintln!("seed {seed}, call {step} of it: {}", case.call.name());
-            }
-            if let (Some(program), 0, 0) = (&mut program, step, seed % LISTED) {
-                let name = format!("the first map of seed {seed}");
-                let told = program.compare(&name, &case.map);
-                told.expect("the small program runs");
-            }
-            let (theirs, kept) = run_product(case, (step % 8) as usize);
-            compared[case.call as usize][ours.number as usize] += 1;
-            if *ours != theirs || !kept {
-                differences += 1;
-                let size = case.map.len() + 4 * case.list.len() + case.image.len();
-                if !matches!(&smallest, Some(other) if other.size <= size) {
-                    let text = describe(seed, step, case, ours, &theirs, kept);
-                    smallest = Some(Difference { size, text });
-                }
-            }
-            step += 1;
-        });
-    }
-
-    let all: u64 = compared.iter().flatten().sum();
+    let tally = compare(seeds.clone(), &mut program);
+    let all: u64 = tally.compared.iter().flatten().sum();
     println!("seeds {}..{}: {all} calls compared", seeds.start, seeds.end);
-    print_table(&compared);
+    tally.print_table();
 
-    let mut good = true;
-    if let Some(difference) = smallest {
-        println!("{differences} calls differ; the smallest:");
-        print!("{}", difference.text);
-        good = false;
+    let complaints = tally.complaints();
+    for complaint in &complaints {
+        println!("{complaint}");
     }
-    for call in CALLS {
-        if compared[call as usize].iter().sum::<u64>() == 0 {
-            println!("{} was never called", call.name());
-            good = false;
-        }
-    }
-    for number in (1..=17).filter(|number| *number != 14) {
-        if compared.iter().map(|row| row[number]).sum::<u64>() == 0 {
-            println!("refusal {number} was never reached");
-            good = false;
-        }
-    }
+    let mut good = complaints.is_empty();
     if let Some(program) = &program {
         println!("{} maps listed by the small program", program.runs);
         good &= program.differences == 0;

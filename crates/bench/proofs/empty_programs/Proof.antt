@@ -10,9 +10,9 @@ use Rattle.geometry.specs.declared.Geometry.{Geometry}
 use Rattle.geometry.specs.declared.Refusal.{Refusal}
 use Rattle.map.specs.declared.Checked.the-variants as check
 use Rattle.listing.specs.declared.Listed.the-variants as listed
-use Rattle.reach.specs.declared.Location.{Location}
-use Rattle.reach.specs.declared.Reached.the-variants as reached
-use Rattle.reach.specs.declared.Swept.the-variants as swept
+use Rattle.address.specs.declared.Location.{Location}
+use Rattle.address.specs.declared.Reached.the-variants as reached
+use Rattle.sweep.specs.declared.Swept.the-variants as swept
 use Rattle.place.specs.declared.Placed.the-variants as given
 use Rattle.claim.specs.declared.Claimed.the-variants as taken
 use Rattle.bench.proofs.empty_programs.Statement.{statement}

@@ -24,28 +24,13 @@ loop-holds c =
     let a = c .before .args in
     (search needs, pow-pos (a .n - a .n), value-end (byteBits (a .s .now)) (a .at + a .n))
 
-sub-i : tie.Need-sub-i Inv-loop μ-loop
-sub-i c = search needs
-
 mul-v : tie.Need-mul-v Inv-loop μ-loop
 mul-v c = omega (arith, small (c .before .loop .v) (c .before .before .before .args .n) (c .before .loop .i) (search needs) (search needs) (search needs))
-
-add-bit : tie.Need-add-bit Inv-loop μ-loop
-add-bit c = search needs
-
-bit-requires : tie.Need-bit-requires Inv-loop μ-loop
-bit-requires c κs = search needs
-
-one-requires : tie.Need-one-requires Inv-loop μ-loop
-one-requires c κs = search needs
 
 add-v : tie.Need-add-v Inv-loop μ-loop
 add-v c =
     let p = c .before .before .before in
     omega (arith, small (p .loop .v) (p .before .before .args .n) (p .loop .i) (search needs) (search needs) (search needs))
-
-loop-less : tie.Need-loop-less Inv-loop μ-loop
-loop-less c = search needs
 
 loop-again : tie.Need-loop-again Inv-loop μ-loop
 loop-again c =
@@ -72,12 +57,12 @@ number-spec =
     Inv-loop
     μ-loop
     loop-holds
-    sub-i
+    (λ c. search needs)
     mul-v
-    add-bit
-    bit-requires
-    one-requires
+    (λ c. search needs)
+    (λ c κs. search needs)
+    (λ c κs. search needs)
     add-v
-    loop-less
+    (λ c. search needs)
     loop-again
     returns)

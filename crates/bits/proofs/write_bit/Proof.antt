@@ -7,22 +7,10 @@ use borrow.Author.Needs.{needs}
 use Rattle.bits.proofs.write_bit.Statement.{statement}
 use Rattle.bits.proofs.write_bit.Tie as tie
 
-set-bit-requires : tie.Need-set-bit-requires
-set-bit-requires c κs = search needs
-
-clear-bit-requires : tie.Need-clear-bit-requires
-clear-bit-requires c κs = search needs
-
-same-length : tie.Need-same-length
-same-length c = search needs
-
 returns : tie.Need-returns
 returns c =
     let a = c .before .before .before .before .before .before .args in
     c .before .before .set-bit .ensures ∙ ap (λ (v : Bool). set (byteBits (a .s .now)) (a .b) v) (sym (c .before .before .before .before .if1 .taken))
-
-same-length-2 : tie.Need-same-length-2
-same-length-2 c = search needs
 
 returns-2 : tie.Need-returns-2
 returns-2 c =
@@ -32,4 +20,4 @@ returns-2 c =
 pub write-bit-spec : {M : Type 1} → statement M
 write-bit-spec =
     tie.close
-    (tie.spec set-bit-requires clear-bit-requires same-length returns same-length-2 returns-2)
+    (tie.spec (λ c κs. search needs) (λ c κs. search needs) (λ c. search needs) returns (λ c. search needs) returns-2)

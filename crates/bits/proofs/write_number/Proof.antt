@@ -21,21 +21,6 @@ loop-holds c =
     let a = c .before .args in
     (search needs, refl, write-first (a .at) (a .n) (byteBits (a .s .now)) (a .v))
 
-add-write-some : tie.Need-add-write-some Inv-loop μ-loop
-add-write-some c = search needs
-
-sub-write-some : tie.Need-sub-write-some Inv-loop μ-loop
-sub-write-some c = search needs
-
-write-some-requires : tie.Need-write-some-requires Inv-loop μ-loop
-write-some-requires c κs = search needs
-
-add-i : tie.Need-add-i Inv-loop μ-loop
-add-i c = search needs
-
-loop-less : tie.Need-loop-less Inv-loop μ-loop
-loop-less c = search needs
-
 loop-again : tie.Need-loop-again Inv-loop μ-loop
 loop-again c =
     let u = c .before .before .before in
@@ -46,9 +31,6 @@ loop-again c =
       r .kept .0 ∙ p .loop .inv .1,
       write-step (a .at) (a .n) (byteBits (r .last .0)) (p .loop .i) (r .result .bits) (r .result .left) (r .ensures .0 .1) (r .ensures .1) ∙ p .loop .inv .2,
     )
-
-same-length : tie.Need-same-length Inv-loop μ-loop
-same-length c = search needs
 
 returns : tie.Need-returns Inv-loop μ-loop
 returns c =
@@ -63,11 +45,11 @@ write-number-spec =
     Inv-loop
     μ-loop
     loop-holds
-    add-write-some
-    sub-write-some
-    write-some-requires
-    add-i
-    loop-less
+    (λ c. search needs)
+    (λ c. search needs)
+    (λ c κs. search needs)
+    (λ c. search needs)
+    (λ c. search needs)
     loop-again
-    same-length
+    (λ c. search needs)
     returns)

@@ -11,18 +11,6 @@ use borrow.Author.Needs.{needs}
 use Rattle.bits.proofs.write_some.Statement.{statement}
 use Rattle.bits.proofs.write_some.Tie as tie
 
-both-requires : tie.Need-both-requires
-both-requires c κs = search needs
-
-cast-s : tie.Need-cast-s
-cast-s c = search needs
-
-slice-write-s : tie.Need-slice-write-s
-slice-write-s c = search needs
-
-same-length : tie.Need-same-length
-same-length c = search needs
-
 returns : tie.Need-returns
 returns c =
     let b = c .before in
@@ -30,12 +18,6 @@ returns c =
     let t = both (eqb (a .b % 8) 0) (leb 8 (a .n)) (sym (b .both .ensures) ∙ c .if1 .taken) in
     let h = leb-true 8 (a .n) (t .1) in
     ((omega arith, h), byte-written (a .s .now) (a .b) (a .n) (a .w) (eqb-true (a .b % 8) 0 (t .0)) h (omega arith))
-
-write-bit-requires : tie.Need-write-bit-requires
-write-bit-requires c κs = search needs
-
-same-length-2 : tie.Need-same-length-2
-same-length-2 c = search needs
 
 returns-2 : tie.Need-returns-2
 returns-2 c =
@@ -47,11 +29,11 @@ pub write-some-spec : {M : Type 1} → statement M
 write-some-spec =
     tie.close
     (tie.spec
-    both-requires
-    cast-s
-    slice-write-s
-    same-length
+    (λ c κs. search needs)
+    (λ c. search needs)
+    (λ c. search needs)
+    (λ c. search needs)
     returns
-    write-bit-requires
-    same-length-2
+    (λ c κs. search needs)
+    (λ c. search needs)
     returns-2)

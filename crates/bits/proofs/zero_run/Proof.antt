@@ -16,35 +16,17 @@ Inv-loop s from end j₀ j = (from ≤ j) × (j ≤ end) × (j + zeros (slice j 
 abbrev μ-loop : tie.MeasureT-loop
 μ-loop s from end j₀ j = end - j
 
-loop-holds : tie.Need-loop-holds Inv-loop μ-loop
-loop-holds c = search needs
-
-bit-requires : tie.Need-bit-requires Inv-loop μ-loop
-bit-requires c κs = search needs
-
-sub-result : tie.Need-sub-result Inv-loop μ-loop
-sub-result c = search needs
-
 returns : tie.Need-returns Inv-loop μ-loop
 returns c =
     let p = c .before .before .before in
     let a = p .before .before .args in
     omega (arith, zeros-stop (byteBits (a .s .now)) (p .loop .j) (a .end) (search needs) (omega (arith, length-byte-bits (a .s .now))) (sym (c .before .bit .ensures) ∙ c .if1 .taken))
 
-add-j : tie.Need-add-j Inv-loop μ-loop
-add-j c = search needs
-
-loop-less : tie.Need-loop-less Inv-loop μ-loop
-loop-less c = search needs
-
 loop-again : tie.Need-loop-again Inv-loop μ-loop
 loop-again c =
     let p = c .before .before .before in
     let a = p .before .before .args in
     omega (arith, zeros-more (byteBits (a .s .now)) (p .loop .j) (a .end) (search needs) (omega (arith, length-byte-bits (a .s .now))) (sym (c .before .bit .ensures) ∙ c .if1 .left))
-
-sub-result-2 : tie.Need-sub-result-2 Inv-loop μ-loop
-sub-result-2 c = search needs
 
 returns-2 : tie.Need-returns-2 Inv-loop μ-loop
 returns-2 c =
@@ -58,12 +40,12 @@ zero-run-spec =
     (tie.spec
     Inv-loop
     μ-loop
-    loop-holds
-    bit-requires
-    sub-result
+    (λ c. search needs)
+    (λ c κs. search needs)
+    (λ c. search needs)
     returns
-    add-j
-    loop-less
+    (λ c. search needs)
+    (λ c. search needs)
     loop-again
-    sub-result-2
+    (λ c. search needs)
     returns-2)

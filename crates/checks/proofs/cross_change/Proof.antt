@@ -11,12 +11,6 @@ returns c = simp (le-leb (c .before .args .n) 1 (search needs))
 returns-2 : tie.Need-returns-2
 returns-2 c = simp (lt-leb (c .before .before .args .n) 1 (search needs), eq-eqb (c .before .before .args .n % 2) 0 (search needs))
 
-add-result : tie.Need-add-result
-add-result c = search needs
-
-cast-result : tie.Need-cast-result
-cast-result c = search needs
-
 returns-3 : tie.Need-returns-3
 returns-3 c =
     let a = c .before .before .before .args in
@@ -29,4 +23,4 @@ returns-4 c =
 
 pub cross-change-spec : {M : Type 1} → statement M
 cross-change-spec =
-    tie.close (tie.spec returns returns-2 add-result cast-result returns-3 returns-4)
+    tie.close (tie.spec returns returns-2 (λ c. search needs) (λ c. search needs) returns-3 returns-4)

@@ -1,54 +1,72 @@
--- The bits that are left after the map's ids were cleared are the unused ids.
-use Prim.Native.Nat.{ℕ, _+_}
-use mathlib.Core.Path.{sym, ap, _∙_}
-use mathlib.Core.Option.{some}
+-- What the windows so far lack is looked for from here on. The measure is how many ids are left, and one of them is unused.
+use Prim.Native.Nat.{_-_, _*_, _≤_}
+use mathlib.Core.Path.{_≡_, refl, _∙_}
 use native.Mathlib.Omega.{arith}
-use lib.ListN.{length-replicate}
-use Rattle.claim.proofs.Cleared.{ids-some, ids-small}
-use Rattle.claim.proofs.LowestFound.{unused-found}
+use Rattle.model.specs.Shown.{piecesOn}
+use Rattle.edits.specs.Judge.{lowest}
+use Rattle.claim.proofs.LowestFound.{window-holds, window-passed, ids-some, ids-small, ids-left}
 use borrow.Author.Needs.{needs}
 use Rattle.claim.proofs.lowest_unused.Statement.{statement}
 use Rattle.claim.proofs.lowest_unused.Tie as tie
 
-slice-aggregate-clear-used : tie.Need-slice-aggregate-clear-used
-slice-aggregate-clear-used c = search needs
+abbrev Inv-loop : tie.InvT-loop
+Inv-loop map g ids from₀ from = (3 ≤ from) × (from ≤ ids) × (lowest (piecesOn g map) (g .ids * g .zones - 3) 3 ≡ lowest (piecesOn g map) (g .ids * g .zones - from) from)
 
-clear-used-requires : tie.Need-clear-used-requires
-clear-used-requires c κs = let s = c .before .before in (s .pre .accepted, omega (arith, ids-small (s .args .g) (s .pre .accepted .numbers), length-replicate {A = ℕ} 65536 255))
+abbrev μ-loop : tie.MeasureT-loop
+μ-loop map g ids from₀ from = ids - from
 
-slice-aggregate-zero-run : tie.Need-slice-aggregate-zero-run
-slice-aggregate-zero-run c = search needs
+mul-ids : tie.Need-mul-ids Inv-loop μ-loop
+mul-ids c = omega (arith, ids-small (c .before .before .pre))
 
-mul-zero-run : tie.Need-mul-zero-run
-mul-zero-run c = let s = c .before .before .before .before .before .before in omega (arith, ids-small (s .args .g) (s .pre .accepted .numbers))
+loop-holds : tie.Need-loop-holds Inv-loop μ-loop
+loop-holds c = (omega arith, omega (arith, ids-some (c .before .before .pre)), refl)
 
-zero-run-requires : tie.Need-zero-run-requires
-zero-run-requires c κs =
-    let d = c .before .before .before in
-    let s = d .before .before .before in
-    (omega (arith, ids-some (s .args .g) (s .pre .accepted .numbers)), omega (arith, ids-small (s .args .g) (s .pre .accepted .numbers), d .clear-used .kept .1 .1 .0, length-replicate {A = ℕ} 65536 255))
+add-smaller : tie.Need-add-smaller Inv-loop μ-loop
+add-smaller c = omega (arith, ids-small (c .before .before .before .pre))
 
-add-result : tie.Need-add-result
-add-result c = let s = c .before .before .before .before .before .before .before in omega (arith, ids-small (s .args .g) (s .pre .accepted .numbers), c .zero-run .ensures .1)
+unused-in-requires : tie.Need-unused-in-requires Inv-loop μ-loop
+unused-in-requires c κs =
+    let p = c .before in
+    (p .before .before .before .pre .accepted, record { low = omega arith; in-order = omega (arith, c .smaller .ensures); high = omega (arith, c .smaller .ensures); few = omega (arith, c .smaller .ensures) })
 
-cast-result : tie.Need-cast-result
-cast-result c = let s = c .before .before .before .before .before .before .before in omega (arith, ids-small (s .args .g) (s .pre .accepted .numbers), c .zero-run .ensures .1)
+cast-result : tie.Need-cast-result Inv-loop μ-loop
+cast-result c =
+    let u = c .before in
+    record { fits = omega (arith, u .before .smaller .ensures, ids-small (u .before .before .before .before .before .pre)) }
 
-returns : tie.Need-returns
+returns : tie.Need-returns Inv-loop μ-loop
 returns c =
-    let d = c .before .before .before .before in
-    let s = d .before .before .before in
-    unused-found (s .pre) (d .clear-used .last .1 .1 .0) (d .clear-used .ensures) ∙ ap (λ (n : ℕ). some (3 + n)) (sym (c .zero-run .ensures .0))
+    let u = c .before in
+    let p = u .before .before in
+    let a = p .before .before .before .args in
+    p .loop .inv .2 ∙ window-holds (u .unused-in .ensures) (a .g .ids * a .g .zones) (omega (arith, u .before .smaller .ensures)) (c .if1 .taken)
+
+loop-less : tie.Need-loop-less Inv-loop μ-loop
+loop-less c =
+    let n = c .before .before in
+    let p = n .before in
+    omega (arith, n .smaller .ensures, ids-left (p .before .before .before .pre) (p .loop .from) (p .loop .inv .2))
+
+loop-again : tie.Need-loop-again Inv-loop μ-loop
+loop-again c =
+    let u = c .before in
+    let n = u .before in
+    let p = n .before in
+    let a = p .before .before .before .args in
+    (omega (arith, n .smaller .ensures, p .loop .inv), omega (arith, n .smaller .ensures), p .loop .inv .2 ∙ window-passed (u .unused-in .ensures) (a .g .ids * a .g .zones) (omega (arith, n .smaller .ensures)) (c .if1 .left))
 
 pub lowest-unused-spec : {M : Type 1} → statement M
 lowest-unused-spec =
     tie.close
     (tie.spec
-    slice-aggregate-clear-used
-    clear-used-requires
-    slice-aggregate-zero-run
-    mul-zero-run
-    zero-run-requires
-    add-result
+    Inv-loop
+    μ-loop
+    mul-ids
+    loop-holds
+    add-smaller
+    (λ c κs. search needs)
+    unused-in-requires
     cast-result
-    returns)
+    returns
+    loop-less
+    loop-again)

@@ -11,12 +11,6 @@ mul-cluster c = let a = c .before .args in omega (arith, cluster-small (a .g) (c
 rem-one : tie.Need-rem-one
 rem-one c = let s = c .before in omega (arith, cluster-long (s .args .g) (s .pre))
 
-one-requires : tie.Need-one-requires
-one-requires c κs = search needs
-
-cast-started : tie.Need-cast-started
-cast-started c = search needs
-
 div-larger : tie.Need-div-larger
 div-larger c = let s = c .before .before in omega (arith, cluster-long (s .args .g) (s .pre))
 
@@ -25,9 +19,6 @@ add-larger c = let s = c .before .before in record { fits = omega (arith, cluste
 
 mul-larger : tie.Need-mul-larger
 mul-larger c = let s = c .before .before .before in record { fits = bits-small (s .args .g) (s .pre) (s .args .size) (c .before .one .result) (s .fits .size .fits) (c .before .one .ensures .1) }
-
-larger-requires : tie.Need-larger-requires
-larger-requires c κs = search needs
 
 returns : tie.Need-returns
 returns c =
@@ -41,10 +32,10 @@ need-of-spec =
     (tie.spec
     mul-cluster
     rem-one
-    one-requires
-    cast-started
+    (λ c κs. search needs)
+    (λ c. search needs)
     div-larger
     add-larger
     mul-larger
-    larger-requires
+    (λ c κs. search needs)
     returns)

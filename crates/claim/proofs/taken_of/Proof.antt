@@ -8,9 +8,6 @@ use borrow.Author.Needs.{needs}
 use Rattle.claim.proofs.taken_of.Statement.{statement}
 use Rattle.claim.proofs.taken_of.Tie as tie
 
-shortest-fragment-requires : tie.Need-shortest-fragment-requires
-shortest-fragment-requires c κs = search needs
-
 add-if1 : tie.Need-add-if1
 add-if1 c =
     let s = c .before in
@@ -22,13 +19,10 @@ returns c =
     let a = c .before .before .args in
     sym (ap (λ (b : Bool). cond b (a .hole) (a .need)) (lt-ltb (a .hole) (a .need + a .g .shortest) (omega (arith, c .if1 .taken, c .before .shortest-fragment .ensures))))
 
-cast-result : tie.Need-cast-result
-cast-result c = search needs
-
 returns-2 : tie.Need-returns-2
 returns-2 c =
     let a = c .before .before .args in
     sym (ap (λ (b : Bool). cond b (a .hole) (a .need)) (le-ltb (a .hole) (a .need + a .g .shortest) (omega (arith, c .if1 .left, c .before .shortest-fragment .ensures))))
 
 pub taken-of-spec : {M : Type 1} → statement M
-taken-of-spec = tie.close (tie.spec shortest-fragment-requires add-if1 returns cast-result returns-2)
+taken-of-spec = tie.close (tie.spec (λ c κs. search needs) add-if1 returns (λ c. search needs) returns-2)

@@ -7,11 +7,8 @@ use Rattle.fragment.proofs.link_from.Tie as tie
 returns : tie.Need-returns
 returns c = simp (eq-eqb _ _ (c .if1 .taken))
 
-add-result : tie.Need-add-result
-add-result c = search needs
-
 returns-2 : tie.Need-returns-2
 returns-2 c = simp (ne-eqb _ _ (c .if1 .left))
 
 pub link-from-spec : {M : Type 1} → statement M
-link-from-spec = tie.close (tie.spec returns add-result returns-2)
+link-from-spec = tie.close (tie.spec returns (λ c. search needs) returns-2)

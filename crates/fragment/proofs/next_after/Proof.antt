@@ -4,9 +4,6 @@ use borrow.Author.Needs.{needs}
 use Rattle.fragment.proofs.next_after.Statement.{statement}
 use Rattle.fragment.proofs.next_after.Tie as tie
 
-link-from-requires : tie.Need-link-from-requires
-link-from-requires c κs = search needs
-
 returns : tie.Need-returns
 returns c = simp (eq-eqb _ _ (c .before .if1 .taken)) (c .link-from .ensures)
 
@@ -14,4 +11,4 @@ returns-2 : tie.Need-returns-2
 returns-2 c = simp (ne-eqb _ _ (c .if1 .left))
 
 pub next-after-spec : {M : Type 1} → statement M
-next-after-spec = tie.close (tie.spec link-from-requires returns returns-2)
+next-after-spec = tie.close (tie.spec (λ c κs. search needs) returns returns-2)

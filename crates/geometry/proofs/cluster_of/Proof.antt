@@ -8,9 +8,6 @@ use borrow.Author.Needs.{needs}
 use Rattle.geometry.proofs.cluster_of.Statement.{statement}
 use Rattle.geometry.proofs.cluster_of.Tie as tie
 
-div-result : tie.Need-div-result
-div-result c = search needs
-
 returns : tie.Need-returns
 returns c =
     let a = c .before .args in
@@ -22,4 +19,4 @@ returns-2 : tie.Need-returns-2
 returns-2 c = simp (le-ltb _ _ (c .if1 .left)) (refl, search needs, search needs)
 
 pub cluster-of-spec : {M : Type 1} → statement M
-cluster-of-spec = tie.close (tie.spec div-result returns returns-2)
+cluster-of-spec = tie.close (tie.spec (λ c. search needs) returns returns-2)

@@ -9,9 +9,6 @@ use borrow.Author.Needs.{needs}
 use Rattle.geometry.proofs.power.Statement.{statement}
 use Rattle.geometry.proofs.power.Tie as tie
 
-shl-result : tie.Need-shl-result
-shl-result c = search needs
-
 returns : tie.Need-returns
 returns c =
     let n = c .args .n in
@@ -21,4 +18,4 @@ returns c =
     (e, omega arith, omega arith)
 
 pub power-spec : {M : Type 1} → statement M
-power-spec = tie.close (tie.spec shl-result returns)
+power-spec = tie.close (tie.spec (λ c. search needs) returns)

@@ -1,71 +1,50 @@
 -- The check's refusal, 17, or the pairs of holder 0 stored.
-use mathlib.Core.Path.{sym, _∙_}
 use native.Mathlib.Omega.{arith}
-use Rattle.map.proofs.Accepts.{accepts}
-use Rattle.listing.proofs.Answers.{check-refuses-free, few-for-free, free-fits, free-listed}
+use Rattle.map.specs.Accepted.{AcceptedMap}
+use Rattle.listing.proofs.Answers.{accepted-by, check-refuses, few-for-free, free-fits, free-listed}
 use borrow.Author.Needs.{needs}
 use Rattle.listing.proofs.free.Statement.{statement}
 use Rattle.listing.proofs.free.Tie as tie
 
-check-requires : tie.Need-check-requires
-check-requires c κs = search needs
-
-enum-known-r : tie.Need-enum-known-r
-enum-known-r c = search needs
-
-enum-known-g : tie.Need-enum-known-g
-enum-known-g c = search needs
-
-count-zones-requires : tie.Need-count-zones-requires
-count-zones-requires c κs =
-    let d = c .before in
-    let s = d .before .before .before .before .before in
-    accepts (s .args .map .now) (d .g .given .0 .0) (sym (d .before .before .check .ensures) ∙ d .g .given .1)
+accepted : (c : tie.After-g) → AcceptedMap (c .before .before .before .before .before .args .map .now) (c .g .given .0 .0)
+accepted c = accepted-by (c .before .before .check .ensures) (c .g .given .1)
 
 returns : tie.Need-returns
 returns c =
-    let n = c .before in
-    let d = n .before .before in
-    let s = d .before .before .before .before .before in
-    let a = accepts (s .args .map .now) (d .g .given .0 .0) (sym (d .before .before .check .ensures) ∙ d .g .given .1) in
-    few-for-free a (s .args .pairs .now) (n .count-zones .result) (n .count-zones .ensures) (c .if1 .taken)
-
-write-zones-requires : tie.Need-write-zones-requires
-write-zones-requires c κs =
     let n = c .before .before in
     let d = n .before .before in
-    let s = d .before .before .before .before .before in
-    let a = accepts (s .args .map .now) (d .g .given .0 .0) (sym (d .before .before .check .ensures) ∙ d .g .given .1) in
-    (a, omega arith, omega arith, free-fits a (s .args .pairs .now) (n .count-zones .result) (n .count-zones .ensures) (c .before .if1 .left))
+    few-for-free (accepted d) (d .before .before .before .before .before .args .pairs .now) (n .count-held .ensures) (c .before .if1 .taken) (c .refuse .ensures)
+
+write-held-requires : tie.Need-write-held-requires
+write-held-requires c κs =
+    let n = c .before .before in
+    let d = n .before .before in
+    (accepted d, omega arith, omega arith, free-fits (accepted d) (d .before .before .before .before .before .args .pairs .now) (n .count-held .ensures) (c .before .if1 .left))
 
 returns-2 : tie.Need-returns-2
 returns-2 c =
     let d = c .before in
-    let s = d .before .before .before .before .before in
-    check-refuses-free (s .args .map .now) (s .args .pairs .now) (d .r .given .0 .0) (sym (d .before .before .check .ensures) ∙ d .r .given .1)
-
-same-length : tie.Need-same-length
-same-length c = search needs
+    let a = d .before .before .before .before .before .args in
+    check-refuses (a .map .now) (a .pairs .now) _ (d .before .before .check .ensures) (d .r .given .1)
 
 returns-3 : tie.Need-returns-3
 returns-3 c =
     let w = c .before .before in
     let n = w .before .before .before in
     let d = n .before .before in
-    let s = d .before .before .before .before .before in
-    let a = accepts (s .args .map .now) (d .g .given .0 .0) (sym (d .before .before .check .ensures) ∙ d .g .given .1) in
-    free-listed a (s .args .pairs .now) (n .count-zones .result) (n .count-zones .ensures) _ (w .before .before .if1 .left) (w .write-zones .ensures .0)
+    free-listed (accepted d) (d .before .before .before .before .before .args .pairs .now) (n .count-held .ensures) (w .before .before .if1 .left) (w .write-held .ensures .0)
 
 pub free-spec : {M : Type 1} → statement M
 free-spec =
     tie.close
     (tie.spec
-    check-requires
-    enum-known-r
-    enum-known-g
-    count-zones-requires
+    (λ c κs. search needs)
+    (λ c. search needs)
+    (λ c. search needs)
+    (λ c κs. accepted (c .before))
+    (λ c κs. search needs)
     returns
-    write-zones-requires
+    write-held-requires
     returns-2
-    same-length
+    (λ c. search needs)
     returns-3)

@@ -1,46 +1,23 @@
 -- The check's refusal, or the accepted map's answer.
-use mathlib.Core.Path.{sym, _∙_}
-use Rattle.map.proofs.Accepts.{accepts}
-use Rattle.listing.proofs.Answers.{check-refuses-object}
+use Rattle.listing.proofs.Answers.{accepted-by, check-refuses}
 use borrow.Author.Needs.{needs}
 use Rattle.listing.proofs.list.Statement.{statement}
 use Rattle.listing.proofs.list.Tie as tie
 
-check-requires : tie.Need-check-requires
-check-requires c κs = search needs
-
-enum-known-r : tie.Need-enum-known-r
-enum-known-r c = search needs
-
-enum-known-g : tie.Need-enum-known-g
-enum-known-g c = search needs
-
-list-object-requires : tie.Need-list-object-requires
-list-object-requires c κs =
-    let d = c .before .before in
-    let s = d .before .before .before .before .before in
-    accepts (s .args .map .now) (d .g .given .0 .0) (sym (d .before .before .check .ensures) ∙ d .g .given .1)
-
 returns : tie.Need-returns
 returns c =
     let d = c .before in
-    let s = d .before .before .before .before .before in
-    check-refuses-object (s .args .map .now) (s .args .pairs .now) (d .r .given .0 .0) (sym (d .before .before .check .ensures) ∙ d .r .given .1) (s .args .id)
-
-same-length : tie.Need-same-length
-same-length c = search needs
-
-returns-2 : tie.Need-returns-2
-returns-2 c = search needs
+    let a = d .before .before .before .before .before .args in
+    check-refuses (a .map .now) (a .pairs .now) _ (d .before .before .check .ensures) (d .r .given .1)
 
 pub list-spec : {M : Type 1} → statement M
 list-spec =
     tie.close
     (tie.spec
-    check-requires
-    enum-known-r
-    enum-known-g
-    list-object-requires
+    (λ c κs. search needs)
+    (λ c. search needs)
+    (λ c. search needs)
+    (λ c κs. accepted-by (c .before .before .before .before .check .ensures) (c .before .before .g .given .1))
     returns
-    same-length
-    returns-2)
+    (λ c. search needs)
+    (λ c. search needs))

@@ -3,8 +3,5 @@ use Rattle.listing.proofs.Laws.{listing-laws}
 use Rattle.listing.proofs.listing_laws.Statement.{statement}
 use Rattle.listing.proofs.listing_laws.Tie as tie
 
-returns : tie.Need-returns
-returns c = listing-laws
-
 pub listing-laws-spec : {M : Type 1} → statement M
-listing-laws-spec = tie.close (tie.spec returns)
+listing-laws-spec = tie.close (tie.spec (λ c. listing-laws))

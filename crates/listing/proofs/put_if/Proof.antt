@@ -6,30 +6,15 @@ use borrow.Author.Needs.{needs}
 use Rattle.listing.proofs.put_if.Statement.{statement}
 use Rattle.listing.proofs.put_if.Tie as tie
 
-mul-pairs : tie.Need-mul-pairs
-mul-pairs c = search needs
-
 slice-write-pairs : tie.Need-slice-write-pairs
 slice-write-pairs c =
     let a = c .before .args in
     omega (arith, wanted-room (a .wanted) (a .at) (length (a .pairs .now)) (c .if1 .taken) (c .before .pre))
 
-add-pairs : tie.Need-add-pairs
-add-pairs c = search needs
-
-mul-pairs-2 : tie.Need-mul-pairs-2
-mul-pairs-2 c = search needs
-
 slice-write-pairs-2 : tie.Need-slice-write-pairs-2
 slice-write-pairs-2 c =
     let a = c .before .args in
     simp length-set (omega (arith, wanted-room (a .wanted) (a .at) (length (a .pairs .now)) (c .if1 .taken) (c .before .pre)))
-
-add-result : tie.Need-add-result
-add-result c = search needs
-
-same-length : tie.Need-same-length
-same-length c = search needs
 
 returns : tie.Need-returns
 returns c = let a = c .before .args in wanted-stored (a .wanted) (a .pairs .now) (a .at) (a .start) (a .len) (c .if1 .taken)
@@ -41,12 +26,12 @@ pub put-if-spec : {M : Type 1} → statement M
 put-if-spec =
     tie.close
     (tie.spec
-    mul-pairs
+    (λ c. search needs)
     slice-write-pairs
-    add-pairs
-    mul-pairs-2
+    (λ c. search needs)
+    (λ c. search needs)
     slice-write-pairs-2
-    add-result
-    same-length
+    (λ c. search needs)
+    (λ c. search needs)
     returns
     returns-2)

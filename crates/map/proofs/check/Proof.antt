@@ -9,15 +9,6 @@ use borrow.Author.Needs.{needs}
 use Rattle.map.proofs.check.Statement.{statement}
 use Rattle.map.proofs.check.Tie as tie
 
-read-record-requires : tie.Need-read-record-requires
-read-record-requires c κs = search needs
-
-enum-known-r : tie.Need-enum-known-r
-enum-known-r c = search needs
-
-enum-known-g : tie.Need-enum-known-g
-enum-known-g c = search needs
-
 mul-if1 : tie.Need-mul-if1
 mul-if1 c =
     let d = c in
@@ -59,9 +50,9 @@ pub check-spec : {M : Type 1} → statement M
 check-spec =
     tie.close
     (tie.spec
-    read-record-requires
-    enum-known-r
-    enum-known-g
+    (λ c κs. search needs)
+    (λ c. search needs)
+    (λ c. search needs)
     mul-if1
     returns
     check-blocks-requires

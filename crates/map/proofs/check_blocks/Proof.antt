@@ -6,26 +6,14 @@ use borrow.Author.Needs.{needs}
 use Rattle.map.proofs.check_blocks.Statement.{statement}
 use Rattle.map.proofs.check_blocks.Tie as tie
 
-zone-checks-requires : tie.Need-zone-checks-requires
-zone-checks-requires c κs = search needs
-
-enum-known-zone : tie.Need-enum-known-zone
-enum-known-zone c = search needs
-
 enum-told : tie.Need-enum-told
 enum-told c = search needs
-
-cross-checks-requires : tie.Need-cross-checks-requires
-cross-checks-requires c κs = search needs
 
 returns : tie.Need-returns
 returns c =
     let a = c .before .before .before .before .before .before .args in
     let none-differs = sym (c .before .before .before .before .zone-checks .ensures) ∙ c .before .before .enum-told .given .1 in
     cross-differs (a .g) (blocksOf (a .g) (a .map .now)) none-differs (c .before .cross-checks .result) (c .before .cross-checks .ensures) (c .if1 .taken)
-
-judge-zones-requires : tie.Need-judge-zones-requires
-judge-zones-requires c κs = search needs
 
 returns-2 : tie.Need-returns-2
 returns-2 c =
@@ -43,11 +31,11 @@ pub check-blocks-spec : {M : Type 1} → statement M
 check-blocks-spec =
     tie.close
     (tie.spec
-    zone-checks-requires
-    enum-known-zone
+    (λ c κs. search needs)
+    (λ c. search needs)
     enum-told
-    cross-checks-requires
+    (λ c κs. search needs)
     returns
-    judge-zones-requires
+    (λ c κs. search needs)
     returns-2
     returns-3)

@@ -19,20 +19,11 @@ abbrev μ-loop : tie.MeasureT-loop
 loop-holds : tie.Need-loop-holds Inv-loop μ-loop
 loop-holds c = let a = c .before .args in (search needs, cross-none (a .map .now) (a .g .zones) (a .g .sector))
 
-sub-z : tie.Need-sub-z Inv-loop μ-loop
-sub-z c = search needs
-
 mul-a : tie.Need-mul-a Inv-loop μ-loop
 mul-a c = let s = c .before .before .before in omega (arith, zone-end (s .args .g .zones) (s .args .g .sector) (c .before .loop .z - 1) (omega arith), s .pre .1)
 
 add-e : tie.Need-add-e Inv-loop μ-loop
 add-e c = let s = c .before .before .before in omega (arith, zone-end (s .args .g .zones) (s .args .g .sector) (c .before .loop .z - 1) (omega arith), s .pre .1)
-
-sub-cross-check : tie.Need-sub-cross-check Inv-loop μ-loop
-sub-cross-check c = search needs
-
-part-cross-check-start : tie.Need-part-cross-check-start Inv-loop μ-loop
-part-cross-check-start c = search needs
 
 part-cross-check-end : tie.Need-part-cross-check-end Inv-loop μ-loop
 part-cross-check-end c = let s = c .before .before .before in omega (arith, zone-end (s .args .g .zones) (s .args .g .sector) (c .before .loop .z - 1) (omega arith), s .pre .1)
@@ -42,9 +33,6 @@ cross-check-requires c κs =
     let p = c .before .before in
     let s = p .before .before in
     omega (arith, block-length (s .args .map .now) (s .args .g .zones) (s .args .g .sector) (s .pre .1) (p .loop .z - 1) (omega arith), s .pre .0 .sector-low)
-
-loop-less : tie.Need-loop-less Inv-loop μ-loop
-loop-less c = search needs
 
 loop-again : tie.Need-loop-again Inv-loop μ-loop
 loop-again c =
@@ -69,13 +57,13 @@ cross-checks-spec =
     Inv-loop
     μ-loop
     loop-holds
-    sub-z
+    (λ c. search needs)
     mul-a
     add-e
-    sub-cross-check
-    part-cross-check-start
+    (λ c. search needs)
+    (λ c. search needs)
     part-cross-check-end
     cross-check-requires
-    loop-less
+    (λ c. search needs)
     loop-again
     returns)

@@ -14,20 +14,11 @@ Inv-loop map g zones size z₀ z = (z ≤ g .zones) × (answerFrom map g z ≡ a
 abbrev μ-loop : tie.MeasureT-loop
 μ-loop map g zones size z₀ z = g .zones - z
 
-loop-holds : tie.Need-loop-holds Inv-loop μ-loop
-loop-holds c = search needs
-
 mul-a : tie.Need-mul-a Inv-loop μ-loop
 mul-a c = let s = c .before .before .before in omega (arith, zone-end (s .args .g .zones) (s .args .g .sector) (c .before .loop .z) (c .loop-test .taken), s .pre .1)
 
 add-e : tie.Need-add-e Inv-loop μ-loop
 add-e c = let s = c .before .before .before in omega (arith, zone-end (s .args .g .zones) (s .args .g .sector) (c .before .loop .z) (c .loop-test .taken), s .pre .1)
-
-sub-judge : tie.Need-sub-judge Inv-loop μ-loop
-sub-judge c = search needs
-
-part-judge-start : tie.Need-part-judge-start Inv-loop μ-loop
-part-judge-start c = search needs
 
 part-judge-end : tie.Need-part-judge-end Inv-loop μ-loop
 part-judge-end c = let s = c .before .before .before in omega (arith, zone-end (s .args .g .zones) (s .args .g .sector) (c .before .loop .z) (c .loop-test .taken), s .pre .1)
@@ -37,9 +28,6 @@ judge-requires c κs =
     let p = c .before .before in
     let s = p .before .before in
     (s .pre .0, c .before .loop-test .taken, block-length (s .args .map .now) (s .args .g .zones) (s .args .g .sector) (s .pre .1) (p .loop .z) (c .before .loop-test .taken))
-
-enum-known-number : tie.Need-enum-known-number Inv-loop μ-loop
-enum-known-number c = search needs
 
 cast-t15 : tie.Need-cast-t15 Inv-loop μ-loop
 cast-t15 c = let p = c .before .before .before .before .before .before in omega (arith, c .before .before .before .before .before .loop-test .taken, p .before .before .pre .0 .zones-high)
@@ -51,15 +39,6 @@ returns c =
     let v = sym (c .before .number .given .1) ∙ c .before .before .before .judge .ensures in
     sym (zones-stop (a .map .now) (a .g) (p .loop .z) (c .before .number .given .0 .0) (c .before .before .before .before .before .loop-test .taken) v)
     ∙ p .loop .inv .1 ∙ zones-all (a .map .now) (a .g)
-
-enum-told : tie.Need-enum-told Inv-loop μ-loop
-enum-told c = search needs
-
-add-z : tie.Need-add-z Inv-loop μ-loop
-add-z c = search needs
-
-loop-less : tie.Need-loop-less Inv-loop μ-loop
-loop-less c = search needs
 
 loop-again : tie.Need-loop-again Inv-loop μ-loop
 loop-again c =
@@ -79,18 +58,18 @@ judge-zones-spec =
     (tie.spec
     Inv-loop
     μ-loop
-    loop-holds
+    (λ c. search needs)
     mul-a
     add-e
-    sub-judge
-    part-judge-start
+    (λ c. search needs)
+    (λ c. search needs)
     part-judge-end
     judge-requires
-    enum-known-number
+    (λ c. search needs)
     cast-t15
     returns
-    enum-told
-    add-z
-    loop-less
+    (λ c. search needs)
+    (λ c. search needs)
+    (λ c. search needs)
     loop-again
     returns-2)

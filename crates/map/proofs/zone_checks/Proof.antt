@@ -27,12 +27,6 @@ mul-a c = let s = c .before .before .before in omega (arith, zone-end (s .args .
 add-e : tie.Need-add-e Inv-loop μ-loop
 add-e c = let s = c .before .before .before in omega (arith, zone-end (s .args .g .zones) (s .args .g .sector) (c .before .loop .z) (c .loop-test .taken), s .pre .1)
 
-sub-check-holds : tie.Need-sub-check-holds Inv-loop μ-loop
-sub-check-holds c = search needs
-
-part-check-holds-start : tie.Need-part-check-holds-start Inv-loop μ-loop
-part-check-holds-start c = search needs
-
 part-check-holds-end : tie.Need-part-check-holds-end Inv-loop μ-loop
 part-check-holds-end c = let s = c .before .before .before in omega (arith, zone-end (s .args .g .zones) (s .args .g .sector) (c .before .loop .z) (c .loop-test .taken), s .pre .1)
 
@@ -42,21 +36,12 @@ check-holds-requires c κs =
     let s = p .before .before in
     omega (arith, block-length (s .args .map .now) (s .args .g .zones) (s .args .g .sector) (s .pre .1) (p .loop .z) (c .before .loop-test .taken), s .pre .0 .sector-low)
 
-cast-t14 : tie.Need-cast-t14 Inv-loop μ-loop
-cast-t14 c = search needs
-
 returns : tie.Need-returns Inv-loop μ-loop
 returns c =
     let p = c .before .before .before .before in
     let a = p .before .before .args in
     let t = sym (c .before .check-holds .ensures) ∙ not-true (c .before .check-holds .result) (c .if1 .taken) in
     ap firstDiffering (sym (checks-stop (a .map .now) (a .g .zones) (a .g .sector) (p .loop .z) (c .before .before .before .loop-test .taken) t) ∙ p .loop .inv .1)
-
-add-z : tie.Need-add-z Inv-loop μ-loop
-add-z c = search needs
-
-loop-less : tie.Need-loop-less Inv-loop μ-loop
-loop-less c = search needs
 
 loop-again : tie.Need-loop-again Inv-loop μ-loop
 loop-again c =
@@ -80,13 +65,13 @@ zone-checks-spec =
     loop-holds
     mul-a
     add-e
-    sub-check-holds
-    part-check-holds-start
+    (λ c. search needs)
+    (λ c. search needs)
     part-check-holds-end
     check-holds-requires
-    cast-t14
+    (λ c. search needs)
     returns
-    add-z
-    loop-less
+    (λ c. search needs)
+    (λ c. search needs)
     loop-again
     returns-2)

@@ -4,13 +4,11 @@ use Prim.Native.Nat.{_≤_}
 use mathlib.Core.Path.{_≡_, ap, _∙_}
 use Rattle.geometry.specs.Places.{discBits, zoneOf, zoneEnd}
 use native.Mathlib.Omega.{arith}
-use Rattle.place.proofs.SmallTests.{off-disc, on-disc, zone-small, next-zone}
+use Rattle.place.proofs.SmallTests.{off-disc, on-disc, zone-small}
+use Rattle.writer.proofs.ZoneParts.{next-zone}
 use borrow.Author.Needs.{needs}
 use Rattle.place.proofs.in_one_zone.Statement.{statement}
 use Rattle.place.proofs.in_one_zone.Tie as tie
-
-disc-bits-requires : tie.Need-disc-bits-requires
-disc-bits-requires c κs = search needs
 
 returns : tie.Need-returns
 returns c = let a = c .before .before .args in off-disc (a .end) (discBits (a .g)) _ (omega (arith, c .if1 .taken, c .before .disc-bits .ensures))
@@ -42,7 +40,7 @@ pub in-one-zone-spec : {M : Type 1} → statement M
 in-one-zone-spec =
     tie.close
     (tie.spec
-    disc-bits-requires
+    (λ c κs. search needs)
     returns
     zone-of-requires
     add-first-disc-bit

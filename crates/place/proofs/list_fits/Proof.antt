@@ -1,17 +1,17 @@
 -- The pairs from entry i on fit from place `from` on exactly where all pairs fit. The measure is what is left of the list.
-use borrow.Author.Needs.{needs}
-use Rattle.place.proofs.ListJudged.{empty-list, odd-list, even-list, fits-ends, pair-fails, order-fails, fits-goes-on}
-use Rattle.place.specs.Parts.{fitsFrom}
-use Rattle.calls.proofs.Invariant.{pair-tested}
-use Rattle.calls.specs.Judge.{pairsFrom}
-use borrow.Author.Tests.{not-true, not-false}
-use lib.ListN.{length, getD, drop}
 use mathlib.Core.Path.{_≡_, refl, sym, _∙_}
-use Prim.Native.Nat.{_+_, _-_, _%_, _≤_}
+use Prim.Native.Nat.{_-_, _%_, _≤_}
 use native.Mathlib.Omega.{arith}
+use lib.ListN.{length, drop}
+use borrow.Author.Tests.{not-true, not-false}
+use Rattle.model.specs.Chain.{pair}
+use Rattle.edits.specs.Judge.{pairsFrom}
+use Rattle.edits.proofs.Invariant.{pair-tested}
+use Rattle.writer.specs.Parts.{fitsFrom}
+use Rattle.place.proofs.ListJudged.{empty-list, odd-list, even-list, fits-ends, pair-fails, order-fails, fits-goes-on}
+use borrow.Author.Needs.{needs}
 use Rattle.place.proofs.list_fits.Statement.{statement}
 use Rattle.place.proofs.list_fits.Tie as tie
-use Rattle.model.specs.Chain.{pair}
 
 abbrev Inv-loop : tie.InvT-loop
 Inv-loop g start list n from₀ i₀ from i = (fitsFrom g start from (pairsFrom (drop i list)) ≡ fitsFrom g start 0 (pairsFrom list)) × (i % 2 ≡ 0) × (i ≤ length list)
@@ -28,82 +28,49 @@ returns-2 c = let a = c .before .before .before .args in odd-list (a .g) (a .sta
 loop-holds : tie.Need-loop-holds Inv-loop μ-loop
 loop-holds c = (refl, refl, omega arith)
 
-mul-bit : tie.Need-mul-bit Inv-loop μ-loop
-mul-bit c = search needs
-
-shared-slice-read-bit : tie.Need-shared-slice-read-bit Inv-loop μ-loop
-shared-slice-read-bit c = search needs
-
-cast-bit : tie.Need-cast-bit Inv-loop μ-loop
-cast-bit c = omega (arith, c .shared-slice-known2 .given (c .before .before .loop .i))
-
-add-len : tie.Need-add-len Inv-loop μ-loop
-add-len c = search needs
-
-mul-len : tie.Need-mul-len Inv-loop μ-loop
-mul-len c = search needs
-
-shared-slice-read-len : tie.Need-shared-slice-read-len Inv-loop μ-loop
-shared-slice-read-len c = let p = c .before .before .before in omega (arith, c .before .before .loop-test .taken, p .loop .inv .1, p .before .if2 .left)
-
-cast-len : tie.Need-cast-len Inv-loop μ-loop
-cast-len c = omega (arith, c .shared-slice-known3 .given (c .before .before .before .loop .i + 1))
-
-pair-fits-requires : tie.Need-pair-fits-requires Inv-loop μ-loop
-pair-fits-requires c κs =
-    let p = c .before .before .before in
-    let s = p .before .before .before .before in
-    (s .pre, c .before .shared-slice-known2 .given (p .loop .i) .fits, c .shared-slice-known3 .given (p .loop .i + 1) .fits)
+pair-at-requires : tie.Need-pair-at-requires Inv-loop μ-loop
+pair-at-requires c κs = let p = c .before in omega (arith, c .loop-test .taken, p .loop .inv .1, p .before .if2 .left)
 
 returns-3 : tie.Need-returns-3 Inv-loop μ-loop
 returns-3 c =
-    let p = c .before .before .before .before .before in
+    let f = c .before in
+    let d = f .before .before .before in
+    let p = d .before .before in
     let e = p .before in
     let s = e .before .before .before in
     let a = s .args in
-    let l = c .before .before .before .before .loop-test .taken in
-    sym (pair-fails (a .g) (a .start) (a .list .now) (e .if2 .left) (p .loop .i) (p .loop .from) l (p .loop .inv .1) (sym (c .before .pair-fits .ensures) ∙ not-true (c .before .pair-fits .result) (c .if3 .taken)))
-    ∙ p .loop .inv .0 ∙ even-list (a .g) (a .start) (a .list .now) (e .before .if1 .left) (e .if2 .left)
+    let l = d .before .loop-test .taken in
+    sym (pair-fails (a .g) (a .start) (a .list .now) (e .if2 .left) (p .loop .i) (p .loop .from) l (p .loop .inv .1) (d .pair-at .ensures) (sym (f .pair-fits .ensures) ∙ not-true (f .pair-fits .result) (c .if3 .taken))) ∙ p .loop .inv .0 ∙ even-list (a .g) (a .start) (a .list .now) (e .before .if1 .left) (e .if2 .left)
 
 order-place-requires : tie.Need-order-place-requires Inv-loop μ-loop
 order-place-requires c κs =
-    let p = c .before .before .before .before .before in
-    let e = p .before in
-    let s = e .before .before .before in
-    let a = s .args in
-    let l = c .before .before .before .before .loop-test .taken in
-    let r = pair-tested (a .g) (pair (getD (a .list .now) (p .loop .i) 0) (getD (a .list .now) (p .loop .i + 1) 0)) (sym (c .before .pair-fits .ensures) ∙ not-false (c .before .pair-fits .result) (c .if3 .left)) in
-    (s .pre, omega (arith, r .below))
+    let f = c .before in
+    let d = f .before .before .before in
+    let q = d .pair-at .result in
+    let s = d .before .before .before .before .before .before in
+    (s .pre, omega (arith, pair-tested (s .args .g) (pair (q .start) (q .len)) (sym (f .pair-fits .ensures) ∙ not-false (f .pair-fits .result) (c .if3 .left)) .below))
 
 returns-4 : tie.Need-returns-4 Inv-loop μ-loop
 returns-4 c =
-    let p = c .before .before .before .before .before .before .before in
+    let f = c .before .before .before in
+    let d = f .before .before .before in
+    let p = d .before .before in
     let e = p .before in
     let s = e .before .before .before in
     let a = s .args in
-    let l = c .before .before .before .before .before .before .loop-test .taken in
-    let f = c .before .before .before .pair-fits in
-    sym (order-fails (a .g) (a .start) (a .list .now) (e .if2 .left) (p .loop .i) (p .loop .from) l (p .loop .inv .1) (sym (f .ensures) ∙ not-false (f .result) (c .before .before .if3 .left)) (c .before .order-place .ensures .0) (c .if4 .taken))
-    ∙ p .loop .inv .0 ∙ even-list (a .g) (a .start) (a .list .now) (e .before .if1 .left) (e .if2 .left)
-
-add-from : tie.Need-add-from Inv-loop μ-loop
-add-from c = let p = c .before .before .before .before .before .before .before in omega (arith, c .before .order-place .ensures .1, c .before .before .before .before .shared-slice-known3 .given (p .loop .i + 1))
-
-add-i : tie.Need-add-i Inv-loop μ-loop
-add-i c = search needs
-
-loop-less : tie.Need-loop-less Inv-loop μ-loop
-loop-less c = search needs
+    let l = d .before .loop-test .taken in
+    sym (order-fails (a .g) (a .start) (a .list .now) (e .if2 .left) (p .loop .i) (p .loop .from) l (p .loop .inv .1) (d .pair-at .ensures) (sym (f .pair-fits .ensures) ∙ not-false (f .pair-fits .result) (c .before .before .if3 .left)) (c .before .order-place .ensures .0) (c .if4 .taken)) ∙ p .loop .inv .0 ∙ even-list (a .g) (a .start) (a .list .now) (e .before .if1 .left) (e .if2 .left)
 
 loop-again : tie.Need-loop-again Inv-loop μ-loop
 loop-again c =
-    let p = c .before .before .before .before .before .before .before in
+    let f = c .before .before .before in
+    let d = f .before .before .before in
+    let p = d .before .before in
     let e = p .before in
     let s = e .before .before .before in
     let a = s .args in
-    let l = c .before .before .before .before .before .before .loop-test .taken in
-    let f = c .before .before .before .pair-fits in
-    let k = fits-goes-on (a .g) (a .start) (a .list .now) (e .if2 .left) (p .loop .i) (p .loop .from) l (p .loop .inv .1) (sym (f .ensures) ∙ not-false (f .result) (c .before .before .if3 .left)) (c .before .order-place .ensures .0) (c .if4 .left) in
+    let l = d .before .loop-test .taken in
+    let k = fits-goes-on (a .g) (a .start) (a .list .now) (e .if2 .left) (p .loop .i) (p .loop .from) l (p .loop .inv .1) (d .pair-at .ensures) (sym (f .pair-fits .ensures) ∙ not-false (f .pair-fits .result) (c .before .before .if3 .left)) (c .before .order-place .ensures .0) (c .if4 .left) in
     (sym k ∙ p .loop .inv .0, omega (arith, p .loop .inv .1), omega (arith, l, p .loop .inv .1, e .if2 .left))
 
 returns-5 : tie.Need-returns-5 Inv-loop μ-loop
@@ -122,19 +89,15 @@ list-fits-spec =
     returns
     returns-2
     loop-holds
-    mul-bit
-    shared-slice-read-bit
-    cast-bit
-    add-len
-    mul-len
-    shared-slice-read-len
-    cast-len
-    pair-fits-requires
+    pair-at-requires
+    (λ c. search needs)
+    (λ c. search needs)
+    (λ c κs. search needs)
     returns-3
     order-place-requires
     returns-4
-    add-from
-    add-i
-    loop-less
+    (λ c. search needs)
+    (λ c. search needs)
+    (λ c. search needs)
     loop-again
     returns-5)

@@ -8,16 +8,10 @@ use borrow.Author.Needs.{needs}
 use Rattle.place.proofs.order_place.Statement.{statement}
 use Rattle.place.proofs.order_place.Tie as tie
 
-zone-of-requires : tie.Need-zone-of-requires
-zone-of-requires c κs = search needs
-
 returns : tie.Need-returns
 returns c =
     let s = c .before .before in
     (late-place (s .args .g) (s .args .start) (s .args .bit) (c .before .zone-of .result) (c .before .zone-of .ensures) (c .if1 .taken), omega (arith, s .pre .1, disc-bits-small (s .args .g) (s .pre .0)))
-
-disc-bits-requires : tie.Need-disc-bits-requires
-disc-bits-requires c κs = search needs
 
 add-result : tie.Need-add-result
 add-result c = let s = c .before .before .before in omega (arith, s .pre .1, c .disc-bits .ensures, disc-bits-small (s .args .g) (s .pre .0))
@@ -30,4 +24,4 @@ returns-2 c =
 
 pub order-place-spec : {M : Type 1} → statement M
 order-place-spec =
-    tie.close (tie.spec zone-of-requires returns disc-bits-requires add-result returns-2)
+    tie.close (tie.spec (λ c κs. search needs) returns (λ c κs. search needs) add-result returns-2)

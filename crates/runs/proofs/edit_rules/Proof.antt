@@ -3,10 +3,10 @@ use Rattle.runs.proofs.EditsAccepted.{released, placed, place-accepted}
 use Rattle.runs.proofs.EditsRefused.{twelve-broke-rules, broken-rules, placed-had-room, thirteen-had-none, without-room, never-fourteen, claimed, fifteen-had-none, no-hole}
 use Rattle.runs.proofs.edit_rules.Statement.{statement}
 use Rattle.runs.proofs.edit_rules.Tie as tie
-use Rattle.runs.specs.Editable.{zonesOf}
-use Rattle.runs.proofs.MapAccepted.{map-geometry}
+use Rattle.model.specs.Shown.{zonesOf}
+use Rattle.edits.proofs.MapAccepted.{map-geometry}
 use Rattle.geometry.specs.Record.{geometryOf}
-use Rattle.calls.proofs.Twelve.{fits-gives-rules, rules-give-fits}
+use Rattle.runs.proofs.Twelve.{fits-gives-rules, rules-give-fits}
 
 returns : tie.Need-returns
 returns c =

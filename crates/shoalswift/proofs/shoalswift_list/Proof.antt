@@ -5,19 +5,10 @@ use borrow.Author.Needs.{needs}
 use Rattle.shoalswift.proofs.shoalswift_list.Statement.{statement}
 use Rattle.shoalswift.proofs.shoalswift_list.Tie as tie
 
-list-requires : tie.Need-list-requires
-list-requires c κs = search needs
-
-pairs-told-requires : tie.Need-pairs-told-requires
-pairs-told-requires c κs = search needs
-
-same-length : tie.Need-same-length
-same-length c = search needs
-
 returns : tie.Need-returns
 returns c =
     let e = c .before .before .before .before .before .list .ensures in
     (c .pairs-told .ensures ∙ ap listNumbers (e .answer), e .list)
 
 pub shoalswift-list-spec : {M : Type 1} → statement M
-shoalswift-list-spec = tie.close (tie.spec list-requires pairs-told-requires same-length returns)
+shoalswift-list-spec = tie.close (tie.spec (λ c κs. search needs) (λ c κs. search needs) (λ c. search needs) returns)

@@ -1,18 +1,9 @@
 -- The call's answer, as numbers.
 use mathlib.Core.Path.{ap, _∙_}
-use Rattle.reach.specs.Sweep.{sweepNumbers}
+use Rattle.sweep.specs.Sweep.{sweepNumbers}
 use borrow.Author.Needs.{needs}
 use Rattle.shoalswift.proofs.shoalswift_sweep_free.Statement.{statement}
 use Rattle.shoalswift.proofs.shoalswift_sweep_free.Tie as tie
-
-sweep-free-requires : tie.Need-sweep-free-requires
-sweep-free-requires c κs = search needs
-
-count-told-requires : tie.Need-count-told-requires
-count-told-requires c κs = search needs
-
-same-length : tie.Need-same-length
-same-length c = search needs
 
 returns : tie.Need-returns
 returns c =
@@ -21,4 +12,4 @@ returns c =
 
 pub shoalswift-sweep-free-spec : {M : Type 1} → statement M
 shoalswift-sweep-free-spec =
-    tie.close (tie.spec sweep-free-requires count-told-requires same-length returns)
+    tie.close (tie.spec (λ c κs. search needs) (λ c κs. search needs) (λ c. search needs) returns)

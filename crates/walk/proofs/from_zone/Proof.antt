@@ -7,7 +7,7 @@ use Rattle.walk.proofs.from_zone.Statement.{statement}
 use Rattle.walk.proofs.from_zone.Tie as tie
 
 returns : tie.Need-returns
-returns c = let s = c .before .before .before in starts-past (s .pre) (s .args .z) (c .if1 .taken)
+returns c = let s = c .before .before .before in starts-past (s .args .z) (s .pre) (c .if1 .taken)
 
 mul-a : tie.Need-mul-a
 mul-a c = let s = c .before .before .before .before in omega (arith, zone-end (s .args .g .zones) (s .args .g .sector) (s .args .z) (c .before .if1 .left), s .pre .sized)
@@ -15,25 +15,13 @@ mul-a c = let s = c .before .before .before .before in omega (arith, zone-end (s
 add-e : tie.Need-add-e
 add-e c = let s = c .before .before .before .before .before in omega (arith, zone-end (s .args .g .zones) (s .args .g .sector) (s .args .z) (c .before .before .if1 .left), s .pre .sized)
 
-zone-first-requires : tie.Need-zone-first-requires
-zone-first-requires c κs = search needs
-
-sub-first-free : tie.Need-sub-first-free
-sub-first-free c = search needs
-
-part-first-free-start : tie.Need-part-first-free-start
-part-first-free-start c = search needs
-
 part-first-free-end : tie.Need-part-first-free-end
 part-first-free-end c = let s = c .before .before .before .before .before .before in omega (arith, zone-end (s .args .g .zones) (s .args .g .sector) (s .args .z) (c .before .before .before .if1 .left), s .pre .sized)
-
-first-free-requires : tie.Need-first-free-requires
-first-free-requires c κs = search needs
 
 returns-2 : tie.Need-returns-2
 returns-2 c =
     let s = c .before .before .before .before .before .before .before .before in
-    starts-at (s .pre) (s .args .z) (c .before .before .before .before .before .if1 .left) _ _ (c .before .before .zone-first .ensures .0) (c .first-free .ensures .0)
+    starts-at (s .args .z) (s .pre) (c .before .before .before .before .before .if1 .left) _ _ (c .before .before .zone-first .ensures .0) (c .first-free .ensures .0)
 
 pub from-zone-spec : {M : Type 1} → statement M
 from-zone-spec =
@@ -42,9 +30,9 @@ from-zone-spec =
     returns
     mul-a
     add-e
-    zone-first-requires
-    sub-first-free
-    part-first-free-start
+    (λ c κs. search needs)
+    (λ c. search needs)
+    (λ c. search needs)
     part-first-free-end
-    first-free-requires
+    (λ c κs. search needs)
     returns-2)

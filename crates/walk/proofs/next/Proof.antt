@@ -24,72 +24,57 @@ length-is f =
 
 read : (f : tie.After-whole-fragment) → let a = f .before .before .before .before .before .before .args in
     Opened (a .g .idlen) (a .w .at) (endBit (a .g)) (a .w .chain) (byteBits (zoneBlock (a .g) (a .map .now) (a .w .zone))) (f .whole-fragment .result .id) (f .whole-fragment .result .len)
-read f = let s = f .before .before .before .before .before .before in opened-here (s .pre .0) (s .pre .1) (s .pre .2) (f .whole-fragment .ensures .0) (length-is f)
-
-zone-end-requires : tie.Need-zone-end-requires
-zone-end-requires c κs = search needs
+read f = let s = f .before .before .before .before .before .before in opened-here (s .pre .0) (s .pre .1) (f .whole-fragment .ensures .0) (length-is f)
 
 mul-a : tie.Need-mul-a
-mul-a c = let s = c .before .before .before in omega (arith, zone-end (s .args .g .zones) (s .args .g .sector) (s .args .w .zone) (s .pre .1), s .pre .0 .sized)
+mul-a c = let s = c .before .before .before in omega (arith, zone-end (s .args .g .zones) (s .args .g .sector) (s .args .w .zone) (s .pre .0), s .pre .1 .ahead .sized)
 
 add-e : tie.Need-add-e
-add-e c = let s = c .before .before .before .before in omega (arith, zone-end (s .args .g .zones) (s .args .g .sector) (s .args .w .zone) (s .pre .1), s .pre .0 .sized)
-
-sub-whole-fragment : tie.Need-sub-whole-fragment
-sub-whole-fragment c = search needs
-
-part-whole-fragment-start : tie.Need-part-whole-fragment-start
-part-whole-fragment-start c = search needs
+add-e c = let s = c .before .before .before .before in omega (arith, zone-end (s .args .g .zones) (s .args .g .sector) (s .args .w .zone) (s .pre .0), s .pre .1 .ahead .sized)
 
 part-whole-fragment-end : tie.Need-part-whole-fragment-end
-part-whole-fragment-end c = let s = c .before .before .before .before in omega (arith, zone-end (s .args .g .zones) (s .args .g .sector) (s .args .w .zone) (s .pre .1), s .pre .0 .sized)
+part-whole-fragment-end c = let s = c .before .before .before .before in omega (arith, zone-end (s .args .g .zones) (s .args .g .sector) (s .args .w .zone) (s .pre .0), s .pre .1 .ahead .sized)
 
 whole-fragment-requires : tie.Need-whole-fragment-requires
 whole-fragment-requires c κs =
     let s = c .before .before .before .before .before in
     let a = s .args in
     let e = c .before .before .before .zone-end .ensures in (
-      omega (arith, s .pre .0 .numbers .idlen-high),
-      omega (arith, e, in-bits (s .pre .0) (s .pre .1) (s .pre .2)),
-      subst⁻¹ (λ (x : ℕ). a .w .at + lengthAt (a .g .idlen) (a .w .at) x (byteBits (zoneBlock (a .g) (a .map .now) (a .w .zone))) ≤ x) e (closes-here (s .pre .0) (s .pre .1) (s .pre .2)),
+      omega (arith, s .pre .1 .ahead .numbers .idlen-high),
+      omega (arith, e, in-bits (s .pre .0) (s .pre .1)),
+      subst⁻¹ (λ (x : ℕ). a .w .at + lengthAt (a .g .idlen) (a .w .at) x (byteBits (zoneBlock (a .g) (a .map .now) (a .w .zone))) ≤ x) e (closes-here (s .pre .0) (s .pre .1)),
     )
-
-holder-requires : tie.Need-holder-requires
-holder-requires c κs = search needs
 
 disc-bit-requires : tie.Need-disc-bit-requires
 disc-bit-requires c κs =
     let s = c .before .before .before .before .before .before .before .before in
-    let p = s .pre .2 .passing (s .pre .1) in
-    (s .pre .0 .numbers, s .pre .1, p .low, p .high)
+    let p = s .pre .1 .passing (s .pre .0) in
+    (s .pre .1 .ahead .numbers, s .pre .0, p .low, p .high)
 
 cast-t21 : tie.Need-cast-t21
 cast-t21 c =
     let s = c .before .before .before .before .before .before .before .before .before .before in
-    let small = zone-bits-small (s .args .g) (s .pre .0 .numbers) (s .args .w .zone) (omega (arith, s .pre .1)) in
-    omega (arith, c .before .disc-bit .ensures, small, s .pre .2 .passing (s .pre .1) .high, s .pre .0 .numbers .bits-high)
+    let small = zone-bits-small (s .args .g) (s .pre .1 .ahead .numbers) (s .args .w .zone) (omega (arith, s .pre .0)) in
+    omega (arith, c .before .disc-bit .ensures, small, s .pre .1 .passing (s .pre .0) .high, s .pre .1 .ahead .numbers .bits-high)
 
 cast-t22 : tie.Need-cast-t22
-cast-t22 c = let s = c .before .before .before .before .before .before .before .before .before .before .before in omega (arith, read (c .before .before .before .before .before) .within, s .pre .0 .numbers .bits-high)
+cast-t22 c = let s = c .before .before .before .before .before .before .before .before .before .before .before in omega (arith, read (c .before .before .before .before .before) .within, s .pre .1 .ahead .numbers .bits-high)
 
 add-t15 : tie.Need-add-t15
-add-t15 c = let s = c .before .before .before .before .before .before .before .before .before .before .before .before in omega (arith, read (c .before .before .before .before .before .before) .within, s .pre .0 .numbers .bits-high)
-
-cast-next-after : tie.Need-cast-next-after
-cast-next-after c = search needs
+add-t15 c = let s = c .before .before .before .before .before .before .before .before .before .before .before .before in omega (arith, read (c .before .before .before .before .before .before) .within, s .pre .1 .ahead .numbers .bits-high)
 
 next-after-requires : tie.Need-next-after-requires
 next-after-requires c κs =
     let s = c .before .before .before .before .before .before .before .before .before .before .before .before .before in
-    omega (arith, s .pre .2 .passing (s .pre .1) .high, s .pre .0 .numbers .bits-high)
+    omega (arith, s .pre .1 .passing (s .pre .0) .high, s .pre .1 .ahead .numbers .bits-high)
 
 settled-requires : tie.Need-settled-requires
 settled-requires c κs =
     let f = c .before .before .before .before .before .before .before .before in
     let s = f .before .before .before .before .before .before in
     let a = s .args in
-    let p = passes (s .pre .0) (s .pre .1) (s .pre .2) (f .whole-fragment .ensures .0) (length-is f) in
-    (s .pre .0, s .pre .1, subst⁻¹ (λ (x : ℕ). Passing (a .map .now) (a .g) (walk (a .w .zone) (a .w .at + f .whole-fragment .result .len) x)) (c .next-after .ensures) p)
+    let p = passes (s .pre .0) (s .pre .1) (f .whole-fragment .ensures .0) (length-is f) in
+    (s .pre .1 .ahead, s .pre .0, subst⁻¹ (λ (x : ℕ). Passing (a .map .now) (a .g) (walk (a .w .zone) (a .w .at + f .whole-fragment .result .len) x)) (c .next-after .ensures) p)
 
 returns : tie.Need-returns
 returns c =
@@ -98,25 +83,25 @@ returns c =
     let s = f .before .before .before .before .before .before in
     let a = s .args in
     let t = subst (λ (x : ℕ). Settles (a .map .now) (a .g) (walk (a .w .zone) (a .w .at + f .whole-fragment .result .len) x) (c .settled .result)) (n .next-after .ensures) (c .settled .ensures) in
-    advances (s .pre .0) (s .pre .1) (s .pre .2) (f .whole-fragment .ensures .0) (length-is f) (c .before .before .before .before .before .before .before .holder .ensures) (c .before .before .before .before .before .before .disc-bit .ensures) t
+    advances (s .pre .0) (s .pre .1) (f .whole-fragment .ensures .0) (length-is f) (c .before .before .before .before .before .before .before .holder .ensures) (c .before .before .before .before .before .before .disc-bit .ensures) t
 
 pub next-spec : {M : Type 1} → statement M
 next-spec =
     tie.close
     (tie.spec
-    zone-end-requires
+    (λ c κs. search needs)
     mul-a
     add-e
-    sub-whole-fragment
-    part-whole-fragment-start
+    (λ c. search needs)
+    (λ c. search needs)
     part-whole-fragment-end
     whole-fragment-requires
-    holder-requires
+    (λ c κs. search needs)
     disc-bit-requires
     cast-t21
     cast-t22
     add-t15
-    cast-next-after
+    (λ c. search needs)
     next-after-requires
     settled-requires
     returns)

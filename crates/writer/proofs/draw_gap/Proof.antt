@@ -8,20 +8,8 @@ use Rattle.writer.proofs.draw_gap.Tie as tie
 returns : tie.Need-returns
 returns c = let s = c .before .before in gap-none (s .pre) (byteBits (s .args .block .now)) (c .if1 .taken)
 
-minus-requires : tie.Need-minus-requires
-minus-requires c κs = search needs
-
-cast-link : tie.Need-cast-link
-cast-link c = search needs
-
-sub-write-fragment : tie.Need-sub-write-fragment
-sub-write-fragment c = search needs
-
 write-fragment-requires : tie.Need-write-fragment-requires
 write-fragment-requires c κs = let m = c .before in gap-fits (m .before .before .before .pre) (m .minus .result) (m .before .if1 .left) (m .minus .ensures)
-
-same-length : tie.Need-same-length
-same-length c = search needs
 
 returns-2 : tie.Need-returns-2
 returns-2 c =
@@ -35,9 +23,9 @@ draw-gap-spec =
     tie.close
     (tie.spec
     returns
-    minus-requires
-    cast-link
-    sub-write-fragment
+    (λ c κs. search needs)
+    (λ c. search needs)
+    (λ c. search needs)
     write-fragment-requires
-    same-length
+    (λ c. search needs)
     returns-2)

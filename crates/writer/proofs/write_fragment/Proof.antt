@@ -12,24 +12,6 @@ use borrow.Author.Needs.{needs}
 use Rattle.writer.proofs.write_fragment.Statement.{statement}
 use Rattle.writer.proofs.write_fragment.Tie as tie
 
-sub-write-number : tie.Need-sub-write-number
-sub-write-number c = search needs
-
-write-number-requires : tie.Need-write-number-requires
-write-number-requires c κs = search needs
-
-sub-set-bit : tie.Need-sub-set-bit
-sub-set-bit c = search needs
-
-add-set-bit : tie.Need-add-set-bit
-add-set-bit c = search needs
-
-set-bit-requires : tie.Need-set-bit-requires
-set-bit-requires c κs = search needs
-
-same-length : tie.Need-same-length
-same-length c = search needs
-
 returns : tie.Need-returns
 returns c =
     let w = c .before .before .before .before .before .before in
@@ -42,10 +24,10 @@ pub write-fragment-spec : {M : Type 1} → statement M
 write-fragment-spec =
     tie.close
     (tie.spec
-    sub-write-number
-    write-number-requires
-    sub-set-bit
-    add-set-bit
-    set-bit-requires
-    same-length
+    (λ c. search needs)
+    (λ c κs. search needs)
+    (λ c. search needs)
+    (λ c. search needs)
+    (λ c κs. search needs)
+    (λ c. search needs)
     returns)

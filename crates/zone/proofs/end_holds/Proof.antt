@@ -7,9 +7,6 @@ use borrow.Author.Needs.{needs}
 use Rattle.zone.proofs.end_holds.Statement.{statement}
 use Rattle.zone.proofs.end_holds.Tie as tie
 
-disc-bit-requires : tie.Need-disc-bit-requires
-disc-bit-requires c κs = search needs
-
 returns : tie.Need-returns
 returns c = simp (c .if1 .taken) (ap (λ (d : ℕ). leb d (c .before .before .before .before .args .g .end)) (c .before .before .before .disc-bit .ensures))
 
@@ -20,4 +17,4 @@ returns-3 : tie.Need-returns-3
 returns-3 c = simp (c .before .if1 .left, ne-eqb _ _ (c .if2 .left)) (ap (λ (d : ℕ). leb d (c .before .before .before .before .before .args .g .end)) (c .before .before .before .before .disc-bit .ensures))
 
 pub end-holds-spec : {M : Type 1} → statement M
-end-holds-spec = tie.close (tie.spec disc-bit-requires returns returns-2 returns-3)
+end-holds-spec = tie.close (tie.spec (λ c κs. search needs) returns returns-2 returns-3)

@@ -5,21 +5,6 @@ use borrow.Author.Needs.{needs}
 use Rattle.zone.proofs.entry_holds.Statement.{statement}
 use Rattle.zone.proofs.entry_holds.Tie as tie
 
-id-holds-requires : tie.Need-id-holds-requires
-id-holds-requires c κs = search needs
-
-end-holds-requires : tie.Need-end-holds-requires
-end-holds-requires c κs = search needs
-
-both-requires : tie.Need-both-requires
-both-requires c κs = search needs
-
-first-holds-requires : tie.Need-first-holds-requires
-first-holds-requires c κs = search needs
-
-both-requires-2 : tie.Need-both-requires-2
-both-requires-2 c κs = search needs
-
 returns : tie.Need-returns
 returns c =
     c .both2 .ensures
@@ -30,9 +15,9 @@ pub entry-holds-spec : {M : Type 1} → statement M
 entry-holds-spec =
     tie.close
     (tie.spec
-    id-holds-requires
-    end-holds-requires
-    both-requires
-    first-holds-requires
-    both-requires-2
+    (λ c κs. search needs)
+    (λ c κs. search needs)
+    (λ c κs. search needs)
+    (λ c κs. search needs)
+    (λ c κs. search needs)
     returns)

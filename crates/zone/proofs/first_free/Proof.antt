@@ -13,15 +13,6 @@ use Rattle.zone.proofs.first_free.Tie as tie
 onward-high : (at link : ℕ) → onward at link ≤ at + link
 onward-high at link = by-test (eqb link 0) (λ t. simp t (omega arith)) (λ t. simp t (omega arith))
 
-free-link-requires : tie.Need-free-link-requires
-free-link-requires c κs = search needs
-
-minus-requires : tie.Need-minus-requires
-minus-requires c κs = search needs
-
-link-from-requires : tie.Need-link-from-requires
-link-from-requires c κs = search needs
-
 returns : tie.Need-returns
 returns c =
     let e : c .link-from .result ≡ onward 8 (linkIn (c .before .before .before .before .args .block .now)) =
@@ -29,4 +20,4 @@ returns c =
     (e, omega (arith, c .link-from .ensures, onward-high 8 (c .before .minus .result), c .before .minus .ensures, c .before .before .free-link .ensures .1))
 
 pub first-free-spec : {M : Type 1} → statement M
-first-free-spec = tie.close (tie.spec free-link-requires minus-requires link-from-requires returns)
+first-free-spec = tie.close (tie.spec (λ c κs. search needs) (λ c κs. search needs) (λ c κs. search needs) returns)

@@ -4,9 +4,6 @@ use borrow.Author.Needs.{needs}
 use Rattle.zone.proofs.first_holds.Statement.{statement}
 use Rattle.zone.proofs.first_holds.Tie as tie
 
-both-requires : tie.Need-both-requires
-both-requires c κs = search needs
-
 returns : tie.Need-returns
 returns c = let m = sym (c .before .before .both .ensures) ∙ c .before .if1 .taken in simp (m, c .if2 .taken)
 
@@ -17,4 +14,4 @@ returns-3 : tie.Need-returns-3
 returns-3 c = let m = sym (c .before .both .ensures) ∙ c .if1 .left in simp m
 
 pub first-holds-spec : {M : Type 1} → statement M
-first-holds-spec = tie.close (tie.spec both-requires returns returns-2 returns-3)
+first-holds-spec = tie.close (tie.spec (λ c κs. search needs) returns returns-2 returns-3)

@@ -41,18 +41,6 @@ turns-over : (c : tie.After-loop Inv-loop μ-loop) → let p = c .before in let 
     atEnd (leb 32768 (p .before .before .free-link .result)) (p .loop .next) (p .loop .owners) ≡ verdictOf (zoneRead (a .g) (a .z) (a .block .now))
 turns-over c = let p = c .before in judge-ends (walked p) (p .loop .inv .4) (p .loop .inv .1) (c .loop-test .left)
 
-zone-first-requires : tie.Need-zone-first-requires Inv-loop μ-loop
-zone-first-requires c κs = search needs
-
-zone-end-requires : tie.Need-zone-end-requires Inv-loop μ-loop
-zone-end-requires c κs = search needs
-
-free-link-requires : tie.Need-free-link-requires Inv-loop μ-loop
-free-link-requires c κs = search needs
-
-first-free-requires : tie.Need-first-free-requires Inv-loop μ-loop
-first-free-requires c κs = search needs
-
 loop-holds : tie.Need-loop-holds Inv-loop μ-loop
 loop-holds c =
     let s = c .before .before .before .before .before in
@@ -63,15 +51,6 @@ loop-holds c =
     let j = judge-starts k (s .args .z) (f .result .0) (l .result) (c .first-free .result) (f .ensures .0) (f .ensures .1) (f .ensures .2) (l .ensures .0) (c .first-free .ensures .0) in
     (f .ensures .1, f .ensures .2, e .ensures, l .ensures .1, j)
 
-fragment-at-requires : tie.Need-fragment-at-requires Inv-loop μ-loop
-fragment-at-requires c κs = search needs
-
-enum-known-id : tie.Need-enum-known-id Inv-loop μ-loop
-enum-known-id c = search needs
-
-cast-n : tie.Need-cast-n Inv-loop μ-loop
-cast-n c = search needs
-
 add-entry-holds : tie.Need-add-entry-holds Inv-loop μ-loop
 add-entry-holds c = omega (arith, turn-fits c)
 
@@ -80,12 +59,6 @@ entry-holds-requires c κs =
     let p = c .before .before .before .before .before in
     let s = p .before .before .before .before .before .before in
     (s .pre .0, s .pre .1, omega (arith, turn-fits c, p .before .before .before .before .zone-first .ensures .0, p .loop .inv .4 .low), omega (arith, turn-fits c, p .before .before .before .zone-end .ensures))
-
-both-requires : tie.Need-both-requires Inv-loop μ-loop
-both-requires c κs = search needs
-
-next-after-requires : tie.Need-next-after-requires Inv-loop μ-loop
-next-after-requires c κs = search needs
 
 add-at : tie.Need-add-at Inv-loop μ-loop
 add-at c = omega (arith, turn-fits (c .before .before .before))
@@ -106,9 +79,6 @@ loop-again c =
     ≡ p .loop .owners && entryHolds (a .g) (a .z) (eqb (p .loop .at) start) (p .loop .at + len) (holderOf (eqb (p .loop .at) (p .loop .next)) id) =
     c .before .both .ensures ∙ ap (λ (b : Bool). p .loop .owners && b) (c .before .before .entry-holds .ensures) in
     (p .loop .inv .0, p .loop .inv .1, p .loop .inv .2, p .loop .inv .3, rw (o, c .next-after .ensures) j)
-
-enum-told : tie.Need-enum-told Inv-loop μ-loop
-enum-told c = search needs
 
 returns : tie.Need-returns Inv-loop μ-loop
 returns c =
@@ -145,22 +115,22 @@ judge-spec =
     (tie.spec
     Inv-loop
     μ-loop
-    zone-first-requires
-    zone-end-requires
-    free-link-requires
-    first-free-requires
+    (λ c κs. search needs)
+    (λ c κs. search needs)
+    (λ c κs. search needs)
+    (λ c κs. search needs)
     loop-holds
-    fragment-at-requires
-    enum-known-id
-    cast-n
+    (λ c κs. search needs)
+    (λ c. search needs)
+    (λ c. search needs)
     add-entry-holds
     entry-holds-requires
-    both-requires
-    next-after-requires
+    (λ c κs. search needs)
+    (λ c κs. search needs)
     add-at
     loop-less
     loop-again
-    enum-told
+    (λ c. search needs)
     returns
     returns-2
     returns-3

@@ -14,8 +14,5 @@ add-t5 c = let s = c .before .before in omega (arith, zone-bits-small (s .args .
 sub-t6 : tie.Need-sub-t6
 sub-t6 c = let s = c .before .before in omega (arith, from-zero-on (s .args .self) (s .pre .0) (s .args .z) (s .args .b .0) (s .pre .2))
 
-returns : tie.Need-returns
-returns c = search needs
-
 pub disc-bit-spec : {M : Type 1} → statement M
-disc-bit-spec = tie.close (tie.spec mul-t4 add-t5 sub-t6 returns)
+disc-bit-spec = tie.close (tie.spec mul-t4 add-t5 sub-t6 (λ c. search needs))

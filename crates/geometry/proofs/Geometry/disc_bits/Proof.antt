@@ -11,8 +11,5 @@ mul-result c = omega (arith, zone-bits-small (c .before .args .self) (c .before 
 sub-result : tie.Need-sub-result
 sub-result c = omega (arith, map-bits-low (c .before .args .self) (c .before .pre))
 
-returns : tie.Need-returns
-returns c = search needs
-
 pub disc-bits-spec : {M : Type 1} → statement M
-disc-bits-spec = tie.close (tie.spec mul-result sub-result returns)
+disc-bits-spec = tie.close (tie.spec mul-result sub-result (λ c. search needs))

@@ -8,11 +8,5 @@ use Rattle.geometry.proofs.Geometry.first_disc_bit.Tie as tie
 mul-minus : tie.Need-mul-minus
 mul-minus c = let s = c .before in omega (arith, mul-le-mul (s .pre .1) (s .pre .0 .bits-high))
 
-minus-requires : tie.Need-minus-requires
-minus-requires c κs = search needs
-
-returns : tie.Need-returns
-returns c = search needs
-
 pub first-disc-bit-spec : {M : Type 1} → statement M
-first-disc-bit-spec = tie.close (tie.spec mul-minus minus-requires returns)
+first-disc-bit-spec = tie.close (tie.spec mul-minus (λ c κs. search needs) (λ c. search needs))

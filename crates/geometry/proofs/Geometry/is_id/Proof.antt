@@ -9,11 +9,5 @@ use Rattle.geometry.proofs.Geometry.is_id.Tie as tie
 mul-both : tie.Need-mul-both
 mul-both c = let s = c .before in let l : s .args .self .zones ≤ 65535 = omega (arith, s .pre .zones-high) in omega (arith, mul-le-mul (s .pre .ids-high) l)
 
-both-requires : tie.Need-both-requires
-both-requires c κs = search needs
-
-returns : tie.Need-returns
-returns c = search needs
-
 pub is-id-spec : {M : Type 1} → statement M
-is-id-spec = tie.close (tie.spec mul-both both-requires returns)
+is-id-spec = tie.close (tie.spec mul-both (λ c κs. search needs) (λ c. search needs))

@@ -8,11 +8,5 @@ use Rattle.geometry.proofs.Geometry.zone_of.Tie as tie
 add-result : tie.Need-add-result
 add-result c = let s = c .before in omega (arith, disc-bits-small (s .args .self) (s .pre .0))
 
-div-result : tie.Need-div-result
-div-result c = search needs
-
-returns : tie.Need-returns
-returns c = search needs
-
 pub zone-of-spec : {M : Type 1} → statement M
-zone-of-spec = tie.close (tie.spec add-result div-result returns)
+zone-of-spec = tie.close (tie.spec add-result (λ c. search needs) (λ c. search needs))

@@ -1,0 +1,33 @@
+-- The laws of specs/Laws. Those of a map that was read hold since its reading is that of an accepted map.
+use mathlib.Core.Path.{_≡_, sym}
+use mathlib.Core.List.{List}
+use Prim.Native.Nat.{ℕ, _<_}
+use Rattle.geometry.specs.declared.Geometry.{Geometry}
+use Rattle.geometry.specs.Record.{geometryOf}
+use Rattle.model.specs.Chain.{Entry}
+use Rattle.model.specs.Answer.{answered}
+use Rattle.model.specs.Check.{mapRead}
+use Rattle.model.specs.Pieces.{piecesOfZones, objectPairs}
+use Rattle.listing.proofs.Laws.{accepted, same-zones}
+use Rattle.address.specs.Address.{Sought, at, seek}
+use Rattle.address.specs.Laws.{AddressLaws}
+use Rattle.address.proofs.Joined.{joined-found, joined-ends}
+use Rattle.address.proofs.OneToOne.{object-one-to-one}
+use Rattle.address.proofs.DiscEnd.{object-on-disc}
+
+module _ (m : List ℕ) (ess : List (List Entry)) (e : mapRead m ≡ answered ess) where
+  abbrev g : Geometry
+  g = geometryOf m
+
+  -- byte i of an object
+  abbrev pub sought : ℕ → ℕ → Sought
+  sought id i = seek (g .unit) (objectPairs g id (piecesOfZones g 0 ess)) i
+
+  one-to-one : (id i j x : ℕ) → sought id i ≡ at x → sought id j ≡ at x → i ≡ j
+  one-to-one id i j x = rw (sym (same-zones m ess e)) (object-one-to-one (accepted m ess e) id i j x)
+
+  on-disc : (id i x : ℕ) → (id ≡ 1 → ⊥) → sought id i ≡ at x → x < g .size
+  on-disc id i x = rw (sym (same-zones m ess e)) (object-on-disc (accepted m ess e) id i x)
+
+pub address-laws : AddressLaws
+address-laws = record { joined-found = joined-found; joined-ends = joined-ends; one-to-one = one-to-one; on-disc = on-disc }

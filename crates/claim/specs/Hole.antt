@@ -1,0 +1,9 @@
+-- The first hole that is long enough (document 01, "Claim"). Assumes nothing.
+use mathlib.Core.Option.{Option, none, some}
+use Rattle.model.specs.Chain.{Pair}
+use Rattle.claim.specs.declared.Hole.{Hole}
+use Rattle.claim.specs.declared.Hole.the-variants as found
+
+abbrev pub holeOf : Option Pair → Hole
+holeOf none = found.None
+holeOf (some q) = found.At (q .start) (q .len)

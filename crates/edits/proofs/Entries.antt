@@ -1,0 +1,92 @@
+-- The entries of a list, and which they are when some are left out, put in, joined or mapped, by induction on the list.
+use mathlib.Core.Path.{_≡_, refl, sym, ap, _∙_}
+use mathlib.Core.Bool.{Bool, true}
+use mathlib.Core.List.{List, [], _∷_, _++_, map}
+use mathlib.Core.Logic.{_⊎_, inl, inr}
+use lib.Dec.{ltb}
+use Rattle.bits.proofs.Tests.{by-test}
+use Rattle.model.specs.Pieces.{Piece, keep}
+use Rattle.edits.specs.Edits.{insert, put}
+use Rattle.edits.specs.Room.{In}
+use Rattle.edits.proofs.Kept.{All}
+
+pub all-in : {A : Type 0} (t : A → Bool) (xs : List A) (h : A) → All t xs → In h xs → t h ≡ true
+all-in t [] h a i = absurd i
+all-in t (x ∷ xs) h a (inl e) = ap t e ∙ a .0
+all-in t (x ∷ xs) h a (inr i) = all-in t xs h (a .1) i
+
+pub in-append : {A : Type 0} (h : A) (xs ys : List A) → In h (xs ++ ys) → In h xs ⊎ In h ys
+in-append h [] ys i = inr i
+in-append h (x ∷ xs) ys (inl e) = inl (inl e)
+in-append h (x ∷ xs) ys (inr i) = go (in-append h xs ys i)
+  where
+    go : In h xs ⊎ In h ys → In h (x ∷ xs) ⊎ In h ys
+    go (inl j) = inl (inr j)
+    go (inr j) = inr j
+
+pub in-keep : {A : Type 0} (t : A → Bool) (h : A) (xs : List A) → In h xs → t h ≡ true → In h (keep t xs)
+in-keep t h [] i k = i
+in-keep t h (x ∷ xs) (inl e) k = simp (ap t (sym e) ∙ k) (inl e)
+in-keep t h (x ∷ xs) (inr i) k = by-test (t x) (λ j. simp j (inr (in-keep t h xs i k))) (λ j. simp j (in-keep t h xs i k))
+
+pub in-kept : {A : Type 0} (t : A → Bool) (h : A) (xs : List A) → In h (keep t xs) → In h xs × (t h ≡ true)
+in-kept t h [] i = absurd i
+in-kept t h (x ∷ xs) i =
+    by-test (t x)
+    (λ j. go (in-kept t h xs) j (simp j at i))
+    (λ j. let r = in-kept t h xs (simp j at i) in (inr (r .0), r .1))
+  where
+    go : (In h (keep t xs) → In h xs × (t h ≡ true)) → t x ≡ true → In h (x ∷ keep t xs) → In h (x ∷ xs) × (t h ≡ true)
+    go ih j (inl e) = (inl e, ap t e ∙ j)
+    go ih j (inr i) = let r = ih i in (inr (r .0), r .1)
+
+pub in-map : {A B : Type 0} (f : A → B) (h : B) (xs : List A) → In h (map f xs) → (x : A) × In x xs × (h ≡ f x)
+in-map f h [] i = absurd i
+in-map f h (x ∷ xs) (inl e) = (x, inl refl, e)
+in-map f h (x ∷ xs) (inr i) = let r = in-map f h xs i in (r .0, inr (r .1), r .2)
+
+pub map-in : {A B : Type 0} (f : A → B) (h : A) (xs : List A) → In h xs → In (f h) (map f xs)
+map-in f h [] i = i
+map-in f h (x ∷ xs) (inl e) = inl (ap f e)
+map-in f h (x ∷ xs) (inr i) = inr (map-in f h xs i)
+
+-- a piece put in, and the others
+pub insert-own : (p : Piece) (l : List Piece) → In p (insert p l)
+insert-own p [] = inl refl
+insert-own p (x ∷ xs) = by-test (ltb (p .at .start) (x .at .start)) (λ k. simp k (inl refl)) (λ k. simp k (inr (insert-own p xs)))
+
+pub in-insert : (h p : Piece) (l : List Piece) → In h l → In h (insert p l)
+in-insert h p [] i = absurd i
+in-insert h p (x ∷ xs) (inl e) = by-test (ltb (p .at .start) (x .at .start)) (λ k. simp k (inr (inl e))) (λ k. simp k (inl e))
+in-insert h p (x ∷ xs) (inr i) = by-test (ltb (p .at .start) (x .at .start)) (λ k. simp k (inr (inr i))) (λ k. simp k (inr (in-insert h p xs i)))
+
+pub insert-in : (h p : Piece) (l : List Piece) → In h (insert p l) → (h ≡ p) ⊎ In h l
+insert-in h p [] i = i
+insert-in h p (x ∷ xs) i =
+    by-test (ltb (p .at .start) (x .at .start))
+    (λ k. simp k at i)
+    (λ k. go (insert-in h p xs) (simp k at i))
+  where
+    swap : (h ≡ p) ⊎ In h xs → (h ≡ p) ⊎ In h (x ∷ xs)
+    swap (inl e) = inl e
+    swap (inr i) = inr (inr i)
+
+    go : (In h (insert p xs) → (h ≡ p) ⊎ In h xs) → In h (x ∷ insert p xs) → (h ≡ p) ⊎ In h (x ∷ xs)
+    go ih (inl e) = inr (inl e)
+    go ih (inr i) = swap (ih i)
+
+pub in-put : (h : Piece) (ps l : List Piece) → In h l → In h (put ps l)
+in-put h [] l i = i
+in-put h (p ∷ ps) l i = in-insert h p (put ps l) (in-put h ps l i)
+
+pub put-in : (h : Piece) (ps l : List Piece) → In h (put ps l) → In h ps ⊎ In h l
+put-in h [] l i = inr i
+put-in h (p ∷ ps) l i = go (put-in h ps l) (insert-in h p (put ps l) i)
+  where
+    step : In h ps ⊎ In h l → In h (p ∷ ps) ⊎ In h l
+    step (inl i) = inl (inr i)
+    step (inr i) = inr i
+
+    go : (In h (put ps l) → In h ps ⊎ In h l) → (h ≡ p) ⊎ In h (put ps l) → In h (p ∷ ps) ⊎ In h l
+    go ih (inl e) = inl (inl e)
+    go ih (inr i) = step (ih i)

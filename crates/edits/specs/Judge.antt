@@ -1,0 +1,114 @@
+-- The calls that edit, judged on the pieces of an accepted map in which no two free fragments touch (document 01, "The
+-- calls", "Numbered refusals"): refused with a number in the table's order, or an edit. Assumes nothing.
+use mathlib.Core.Bool.{Bool, true, false, cond, not, _&&_}
+use mathlib.Core.List.{List, [], _∷_}
+use mathlib.Core.Option.{Option, none, some}
+use Prim.Native.Nat.{ℕ, zero, suc, _+_, _-_, _*_, _/_, _%_, max}
+use lib.Dec.{eqb, ltb, leb}
+use lib.ListN.{length}
+use Rattle.geometry.specs.declared.Geometry.{Geometry}
+use Rattle.geometry.specs.Places.{zoneOf, zoneEnd, discBits, idFrom}
+use Rattle.model.specs.Answer.{Answer, refused, answered, unless, andThen}
+use Rattle.model.specs.Chain.{Pair}
+use Rattle.model.specs.Pieces.{Piece, piecesOf, late, objectPairs}
+use Rattle.edits.specs.Order.{rank}
+use Rattle.edits.specs.Edits.{own, give, Edit, takes, gives}
+use Rattle.edits.specs.Holes.{holesFrom, allApart}
+
+-- a release of an id with room for so many entries; a place of a list under an id; a claim of so many bytes
+pub data Call : Type 0 where
+  release : ℕ → ℕ → Call
+  place : ℕ → List ℕ → Call
+  claim : ℕ → Call
+
+abbrev pub isEmpty {ℓ} : {A : Type ℓ} → List A → Bool
+isEmpty [] = true
+isEmpty (x ∷ xs) = false
+
+-- 8: an "id argument outside .. 3 (sweep, edits) to P*nzones-1"
+abbrev pub editable : Geometry → ℕ → Bool
+editable g id = idFrom 3 g id
+
+abbrev pub numberFits : Geometry → Call → Bool
+numberFits g (release id room) = editable g id
+numberFits g (place id list) = editable g id
+numberFits g (claim size) = true
+
+-- the pairs of a list that is handed in
+abbrev pub pairsFrom : List ℕ → List Pair
+pairsFrom [] = []
+pairsFrom (a ∷ []) = []
+pairsFrom (a ∷ b ∷ l) = record { start = a; len = b } ∷ pairsFrom l
+
+-- 12: "list empty, odd, out of object order, overlapping, a piece across zones or off the disc map, start or length not a
+-- multiple of k, length below m"
+abbrev pub pairFits : Geometry → Pair → Bool
+pairFits g q =
+    leb (g .shortest) (q .len)
+    && (eqb (q .start % g .cluster) 0 && eqb (q .len % g .cluster) 0)
+    && (leb (q .start + q .len) (discBits g) && leb (q .start + q .len) (zoneEnd g (zoneOf g (q .start))))
+
+abbrev pub pairsFit : Geometry → ℕ → ℕ → List Pair → Bool
+pairsFit g id from [] = true
+pairsFit g id from (q ∷ qs) =
+    pairFits g q && leb from (rank (late g id) (discBits g) (own id q))
+    && pairsFit g id (rank (late g id) (discBits g) (own id q) + q .len) qs
+
+abbrev pub listFits : Geometry → ℕ → List ℕ → Bool
+listFits g id l = ltb 0 (length l) && eqb (length l % 2) 0 && pairsFit g id 0 (pairsFrom l)
+
+-- "Need = the larger of m and the size rounded up to clusters, in map bits."
+abbrev pub need : Geometry → ℕ → ℕ
+need g size = max (g .shortest) ((size + g .cluster * g .unit - 1) / (g .cluster * g .unit) * g .cluster)
+
+-- "the first hole of length at least need"
+abbrev pub firstHole : ℕ → List Pair → Option Pair
+firstHole n [] = none
+firstHole n (h ∷ hs) = cond (leb n (h .len)) (some h) (firstHole n hs)
+
+-- "Take need bits from its start, or the whole hole if 1 to m-1 bits would remain."
+abbrev pub taken : ℕ → ℕ → Pair → Pair
+taken m n h = record { start = h .start; len = cond (ltb (h .len) (n + m)) (h .len) n }
+
+-- "The id is the lowest unused one from 3": of n ids from `id` on
+abbrev pub lowest : List Piece → ℕ → ℕ → Option ℕ
+lowest l zero id = none
+lowest l (suc n) id = let r = lowest l n (suc id) in cond (isEmpty (piecesOf id l)) (some id) r
+
+-- what a claim chooses: an id, and the pairs that it is to be given
+pub record Choice : Type 0 where
+  pub id : ℕ
+  pub pairs : List Pair
+
+abbrev pub choice : ℕ → List Pair → Choice
+choice id qs = record { id = id; pairs = qs }
+
+-- 14: "no unused id"; 15: "no hole of length need"
+abbrev pub chooseIn : Option ℕ → Option Pair → ℕ → ℕ → Answer Choice
+chooseIn none h m n = refused 14 0
+chooseIn (some id) none m n = refused 15 0
+chooseIn (some id) (some h) m n = answered (choice id (taken m n h ∷ []))
+
+-- what a claim of so many bytes chooses: the one definition that another way of choosing replaces
+abbrev pub chosen : Geometry → List Piece → ℕ → Answer Choice
+chosen g l size = chooseIn (lowest l (g .ids * g .zones - 3) 3) (firstHole (need g size) (holesFrom g 0 (g .zones) l)) (g .shortest) (need g size)
+
+-- "Then as place": the chosen pairs are given to the chosen id
+abbrev pub byChoice : Answer Choice → Answer Edit
+byChoice r = andThen r (λ (c : Choice). answered (gives (c .id) (c .pairs)))
+
+-- what comes after 8 and 9
+abbrev pub judgeRest : Geometry → List Piece → Call → Answer Edit
+judgeRest g l (release id room) =
+    unless (not (isEmpty (piecesOf id l))) 10
+    (unless (leb (2 * length (objectPairs g id l)) room) 17
+    (answered (takes id (objectPairs g id l))))
+judgeRest g l (place id list) =
+    unless (isEmpty (piecesOf id l)) 11
+    (unless (listFits g id list) 12
+    (unless (allApart g 0 (g .zones) (give id (pairsFrom list) l)) 13
+    (answered (gives id (pairsFrom list)))))
+judgeRest g l (claim size) = unless (ltb 0 size) 12 (byChoice (chosen g l size))
+
+abbrev pub judge : Geometry → List Piece → Call → Answer Edit
+judge g l c = unless (numberFits g c) 8 (judgeRest g l c)

@@ -1,0 +1,10 @@
+pub mod Order
+pub mod Edits
+pub mod Holes
+pub mod Judge
+pub mod Runs
+pub mod Room
+pub mod Written
+pub mod Steps
+pub mod Editable
+pub mod EditableMap

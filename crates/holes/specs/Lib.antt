@@ -1,3 +1,0 @@
-pub mod Touching
-pub mod EditableMap
-pub mod Hole

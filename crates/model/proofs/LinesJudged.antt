@@ -1,0 +1,53 @@
+-- A call's lines give one answer, and the call gives it: each line tells one zone, so the first line given fixes the answer; and a chain
+-- of tests answers by the lines that the tests stand for.
+use mathlib.Core.Path.{_≡_, refl, sym, ap, _∙_}
+use mathlib.Core.Bool.{Bool, true, false}
+use mathlib.Core.List.{List, [], _∷_}
+use mathlib.Core.Logic.{inl, inr}
+use Prim.Native.Nat.{ℕ}
+use Rattle.model.specs.Answer.{Answer, refused, answered, unless, andThen}
+use Rattle.model.specs.Chain.{Entry}
+use Rattle.model.specs.Check.{mapRead}
+use Rattle.model.specs.Table.{Judged}
+use Rattle.model.specs.Refusals.{Refusing, line, ByLines, ByTable, map-refused, by-lines, Exactly}
+use Rattle.model.proofs.MapJudged.{answer-is-judged, judged-is-answer, accepted-keeps-rules, rules-accepted}
+
+-- each line tells one zone
+abbrev pub OneZone : Refusing → Type 0
+OneZone l = (y z : ℕ) → l .given y → l .given z → y ≡ z
+
+abbrev pub EachOneZone : List Refusing → Type 0
+EachOneZone [] = Unit {0}
+EachOneZone (l ∷ ls) = OneZone l × EachOneZone ls
+
+pub line-one : (n : ℕ) (Given : Type 0) → OneZone (line n Given)
+line-one n Given y z p q = p .0 ∙ sym (q .0)
+
+lines-same : {A : Type 0} (ls : List Refusing) (a : A) → EachOneZone ls → (r s : Answer A) → ByLines ls a r → ByLines ls a s → r ≡ s
+lines-same [] a u r s p q = p ∙ sym q
+lines-same (l ∷ ls) a u r s (inl p) (inl q) = p .2 ∙ ap (refused (l .number)) (u .0 (p .0) (q .0) (p .1) (q .1)) ∙ sym (q .2)
+lines-same (l ∷ ls) a u r s (inl p) (inr q) = absurd (q .0 (p .0) (p .1))
+lines-same (l ∷ ls) a u r s (inr p) (inl q) = absurd (p .0 (q .0) (q .1))
+lines-same (l ∷ ls) a u r s (inr p) (inr q) = lines-same ls a (u .1) r s (p .1) (q .1)
+
+-- one test and its line
+pub unless-line : {A : Type 0} (b : Bool) (n : ℕ) (Given : Type 0) (ls : List Refusing) (a : A) (r : Answer A) → (b ≡ false → Given) → (b ≡ true → Given → ⊥)
+    → (b ≡ true → ByLines ls a r) → ByLines (line n Given ∷ ls) a (unless b n r)
+unless-line true n Given ls a r f t h = inr ((λ z p. t refl (p .1)), h refl)
+unless-line false n Given ls a r f t h = inl (0, (refl, f refl), refl)
+
+-- a call that goes on from the check by its lines
+module _ (m : List ℕ) {A : Type 0} (ls : List Refusing) (a : A) (one : EachOneZone ls) (k : List (List Entry) → Answer A)
+    (h : (ess : List (List Entry)) → mapRead m ≡ answered ess → ByLines ls a (k ess)) where
+  told : (r : Answer (List (List Entry))) → mapRead m ≡ r → Judged m r → ByTable m ls a (andThen r k)
+  told (refused n z) e j = map-refused n z j
+  told (answered ess) e j = by-lines (k ess) (accepted-keeps-rules m ess e) (h ess e)
+
+  only : (s : Answer A) → ByTable m ls a s → andThen (mapRead m) k ≡ s
+  only s (map-refused n z j) = ap (λ (r : Answer (List (List Entry))). andThen r k) (judged-is-answer m (refused n z) j)
+  only s (by-lines r w b) =
+      let q = rules-accepted m w in
+      ap (λ (r : Answer (List (List Entry))). andThen r k) (q .1) ∙ lines-same ls a one (k (q .0)) s (h (q .0) (q .1)) b
+
+  pub by-table : Exactly (ByTable m ls a) (andThen (mapRead m) k)
+  by-table = record { told = told (mapRead m) refl (answer-is-judged m); only = only }

@@ -1,0 +1,34 @@
+-- Refusals by lines, as document 01's table has them ("Numbered refusals"): a line has a number and says when it is given, and which zone
+-- is told. "Order: 1 (under 64), 2, 1, 3 over all zones, 4; then zone by zone 6, 5, 7; then the rest in table order." The lines here are
+-- those of the rest, 8 to 17; each call lists its own. Assumes nothing.
+use mathlib.Core.Path.{_≡_}
+use mathlib.Core.List.{List, [], _∷_}
+use mathlib.Core.Logic.{_⊎_}
+use Prim.Native.Nat.{ℕ}
+use Rattle.model.specs.Answer.{Answer, refused, answered}
+use Rattle.model.specs.Rules.{MapRules}
+use Rattle.model.specs.Table.{Judged}
+
+-- a line of the table: its number, and that it is given, with this zone told
+pub record Refusing : Type 1 where
+  pub number : ℕ
+  pub given : ℕ → Type 0
+
+-- a line that tells zone 0
+abbrev pub line : ℕ → Type 0 → Refusing
+line n Given = record { number = n; given = λ z. (z ≡ 0) × Given }
+
+-- the first line that is given is the answer, and where none is, the value
+abbrev pub ByLines : {A : Type 0} → List Refusing → A → Answer A → Type 0
+ByLines [] a r = r ≡ answered a
+ByLines (l ∷ ls) a r = ((z : ℕ) × l .given z × (r ≡ refused (l .number) z)) ⊎ (((z : ℕ) → l .given z → ⊥) × ByLines ls a r)
+
+-- a map that keeps the rules is judged by the call's own lines; any other is refused with 1 to 7
+pub data ByTable (m : List ℕ) {A : Type 0} (ls : List Refusing) (a : A) : Answer A → Type 0 where
+  map-refused : (n z : ℕ) → Judged m (refused n z) → ByTable m ls a (refused n z)
+  by-lines : (r : Answer A) → MapRules m → ByLines ls a r → ByTable m ls a r
+
+-- a call answers what its lines say, and nothing else does
+pub record Exactly {A : Type 0} (Says : Answer A → Type 0) (r : Answer A) : Type 0 where
+  pub told : Says r
+  pub only : (s : Answer A) → Says s → r ≡ s

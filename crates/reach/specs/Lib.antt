@@ -1,4 +1,0 @@
-pub mod Address
-pub mod Sweep
-pub mod Parts
-pub mod Laws

@@ -1,0 +1,9 @@
+pub mod Bounds
+pub mod SweptOn
+pub mod OnePair
+pub mod FillRuns
+pub mod ApartCounts
+pub mod SweepAnswers
+pub mod SweptLaws
+pub mod SweptReached
+pub mod Laws

@@ -1,0 +1,29 @@
+-- What holds of sweeps on an accepted map (demand 2). Assumes nothing.
+use mathlib.Core.Path.{_≡_}
+use mathlib.Core.Bool.{true, false, cond}
+use mathlib.Core.List.{List, _++_}
+use Prim.Native.Nat.{ℕ, _+_, _<_}
+use lib.ListN.{length, getD}
+use Rattle.geometry.specs.Record.{geometryOf}
+use Rattle.model.specs.Chain.{Pair, Entry}
+use Rattle.model.specs.Answer.{answered}
+use Rattle.model.specs.Check.{mapRead}
+use Rattle.model.specs.Pieces.{piecesOfZones, objectPairs, freeSpans}
+use Rattle.address.specs.Address.{seek, at}
+use Rattle.sweep.specs.Sweep.{covers, sweptBytes, coveredCount, objectSpans}
+
+pub record SweepLaws : Type 0 where
+  -- the sweep of an object covers exactly the addresses of its bytes, and that of free space none of them
+  pub swept-is-reached : (m : List ℕ) (ess : List (List Entry)) → mapRead m ≡ answered ess → (id a : ℕ) → let g = geometryOf m in
+      covers (g .unit) (objectSpans g id ess) a ≡ true → (i : ℕ) × (seek (g .unit) (objectPairs g id (piecesOfZones g 0 ess)) i ≡ at a)
+  pub reached-is-swept : (m : List ℕ) (ess : List (List Entry)) → mapRead m ≡ answered ess → (id i a : ℕ) → let g = geometryOf m in
+      seek (g .unit) (objectPairs g id (piecesOfZones g 0 ess)) i ≡ at a → covers (g .unit) (objectSpans g id ess) a ≡ true
+  pub free-not-reached : (m : List ℕ) (ess : List (List Entry)) → mapRead m ≡ answered ess → (id i a : ℕ) → let g = geometryOf m in
+      seek (g .unit) (objectPairs g id (piecesOfZones g 0 ess)) i ≡ at a → covers (g .unit) (freeSpans g 0 ess) a ≡ false
+  -- "writes the fill at each address of that class within the stretch, nowhere else"
+  pub swept-byte : (unit : ℕ) (qs : List Pair) (fill a : ℕ) (image : List ℕ) (i : ℕ) → i < length image
+      → getD (sweptBytes unit qs fill a image) i 0 ≡ cond (covers unit qs (a + i)) fill (getD image i 0)
+  pub swept-length : (unit : ℕ) (qs : List Pair) (fill a : ℕ) (image : List ℕ) → length (sweptBytes unit qs fill a image) ≡ length image
+  -- a stretch cut in two: the bytes are the same and the counts add up
+  pub cut-bytes : (unit : ℕ) (qs : List Pair) (fill a : ℕ) (x y : List ℕ) → sweptBytes unit qs fill a (x ++ y) ≡ sweptBytes unit qs fill a x ++ sweptBytes unit qs fill (a + length x) y
+  pub cut-count : (unit : ℕ) (qs : List Pair) (a n k : ℕ) → coveredCount unit qs a (n + k) ≡ coveredCount unit qs a n + coveredCount unit qs (a + n) k

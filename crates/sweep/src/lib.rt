@@ -1,0 +1,169 @@
+// Sweeps a stretch of disc image: the fill over every byte of an object, or of free space (document 01, "The calls").
+use geometry::Geometry;
+use geometry::Refusal;
+use geometry::refuse;
+use map::Checked;
+ghost use mathlib.Core.Path.{_≡_};
+ghost use mathlib.Core.List.{_++_};
+ghost use Prim.Native.Nat.{_+_, _-_, _≤_, min};
+ghost use lib.Dec.{ltb};
+ghost use lib.ListN.{length, take, drop, replicate};
+ghost use Rattle.map.specs.Accepted.{AcceptedMap};
+ghost use Rattle.walk.specs.HeldBy.{pairIf, heldFrom};
+ghost use Rattle.sweep.specs.Sweep.{sweptBytes, pairCounts, onDisc, objectSweep, freeSweep, Sweeps};
+ghost use Rattle.sweep.specs.Laws.{SweepLaws};
+
+// How many addresses of the stretch were of the class, or a refusal.
+pub enum Swept {
+    Count(u64),
+    Refused(Refusal),
+}
+
+// Sweeps an ordinary object within a stretch of image that starts at disc address `first`. Refused: 1 to 7 as `map::check`, 8,
+// 10, 16.
+pub fn sweep_object(map: &[u8], image: &mut [u8], first: u64, fill: u8, id: u32) -> Swept
+    ensures { λ r. ⌜ Sweeps (objectSweep (now (map .entry)) id first (length (now (image .entry)))) first fill (now (image .entry)) r (now (image .exit)) ⌝ }
+{
+    match map::check(map) {
+        Checked::Refused(r) => Swept::Refused(r),
+        Checked::Accepted(g) => sweep_id(map, g, image, first, fill, id),
+    }
+}
+
+// Sweeps free space within a stretch of image that starts at disc address `first`. Refused: 1 to 7 as `map::check`, 16.
+pub fn sweep_free(map: &[u8], image: &mut [u8], first: u64, fill: u8) -> Swept
+    ensures { λ r. ⌜ Sweeps (freeSweep (now (map .entry)) first (length (now (image .entry)))) first fill (now (image .entry)) r (now (image .exit)) ⌝ }
+{
+    match map::check(map) {
+        Checked::Refused(r) => Swept::Refused(r),
+        Checked::Accepted(g) => sweep_class(map, g, 0, image, first, fill),
+    }
+}
+
+// An object's sweep on an accepted map: 8, 10, and then as a holder's.
+fn sweep_id(map: &[u8], g: Geometry, image: &mut [u8], first: u64, fill: u8, id: u32) -> Swept
+    requires { ⌜ AcceptedMap (now map) g ⌝ }
+    ensures { λ r. ⌜ Sweeps (objectSweep (now (map .entry)) id first (length (now (image .entry)))) first fill (now (image .entry)) r (now (image .exit)) ⌝ }
+{
+    if !g.is_id(3, id as usize) {
+        return Swept::Refused(refuse(8));
+    }
+    if listing::count_held(map, g, id) == 0 {
+        return Swept::Refused(refuse(10));
+    }
+    sweep_class(map, g, id, image, first, fill)
+}
+
+// A holder's sweep on an accepted map: 16.
+fn sweep_class(
+    map: &[u8],
+    g: Geometry,
+    holder: u32,
+    image: &mut [u8],
+    first: u64,
+    fill: u8,
+) -> Swept
+    requires { ⌜ AcceptedMap (now map) g ⌝ }
+    ensures { λ r. ⌜ Sweeps (onDisc g first (length (now (image .entry))) (heldFrom g holder (now (map .entry)) 0 (g .zones))) first fill (now (image .entry)) r (now (image .exit)) ⌝ }
+{
+    if ends_past(g, first, image.len()) {
+        return Swept::Refused(refuse(16));
+    }
+    Swept::Count(sweep_held(map, g, holder, image, first as usize, fill) as u64)
+}
+
+// Whether a stretch of n bytes from `first` on ends past the disc; the sum is not made, since it could wrap.
+fn ends_past(g: Geometry, first: u64, n: usize) -> bool
+    ensures { λ r. ⌜ r ≡ ltb (g .size) (first + n) ⌝ }
+{
+    if g.size < n {
+        return true;
+    }
+    g.size - n < first as usize
+}
+
+// Sweeps a holder's fragments of all zones; answers how many bytes were written.
+fn sweep_held(
+    map: &[u8],
+    g: Geometry,
+    holder: u32,
+    image: &mut [u8],
+    first: usize,
+    fill: u8,
+) -> usize
+    requires { ⌜ AcceptedMap (now map) g × (first + length (now image) ≤ g .size) ⌝ }
+    ensures bytes { λ r. ⌜ now (image .exit) ≡ sweptBytes (g .unit) (heldFrom g holder (now (map .entry)) 0 (g .zones)) fill first (now (image .entry)) ⌝ }
+    ensures count { λ r. ⌜ r ≡ pairCounts (g .unit) (heldFrom g holder (now (map .entry)) 0 (g .zones)) first (length (now (image .entry))) ⌝ }
+{
+    let zones = g.zones;
+    let unit = g.unit;
+    let mut count = 0;
+    let mut w = walk::from_zone(map, g, 0);
+    while w.zone < zones {
+        let s = walk::next(map, g, w);
+        let line = s.line;
+        count += sweep_line(
+            line.holder == holder,
+            line.start,
+            line.len,
+            unit,
+            image,
+            first,
+            fill,
+        );
+        w = s.after;
+    }
+    count
+}
+
+// Fills a pair's part of the stretch at once, if the pair is wanted; answers how many bytes that is.
+fn sweep_line(
+    wanted: bool,
+    start: u32,
+    len: u32,
+    unit: usize,
+    image: &mut [u8],
+    first: usize,
+    fill: u8,
+) -> usize
+    requires { ⌜ unit ≤ 4096 ⌝ }
+    ensures bytes { λ r. ⌜ now (image .exit) ≡ sweptBytes unit (pairIf wanted start len) fill first (now (image .entry)) ⌝ }
+    ensures count { λ r. ⌜ r ≡ pairCounts unit (pairIf wanted start len) first (length (now (image .entry))) ⌝ }
+{
+    if wanted {
+        let n = image.len();
+        let from = clip(start as usize * unit, first, n);
+        let to = clip((start as usize + len as usize) * unit, first, n);
+        fill_bytes(image, from, to, fill);
+        return to - from;
+    }
+    0
+}
+
+// An address as a place in a stretch of n bytes from `first` on, or the nearer end of the stretch.
+fn clip(a: usize, first: usize, n: usize) -> usize
+    ensures { λ r. ⌜ (r ≡ min (a - first) n) × (r ≤ n) ⌝ }
+{
+    let i = bits::minus(a, first);
+    if i < n {
+        return i;
+    }
+    n
+}
+
+// Fills the bytes from `from` to `to`.
+fn fill_bytes(image: &mut [u8], from: usize, to: usize, fill: u8)
+    requires { ⌜ (from ≤ to) × (to ≤ length (now image)) ⌝ }
+    ensures { λ _. ⌜ now (image .exit) ≡ take from (now (image .entry)) ++ (replicate (to - from) fill ++ drop to (now (image .entry))) ⌝ }
+{
+    let mut i = from;
+    while i < to {
+        image[i] = fill;
+        i += 1;
+    }
+}
+
+// The laws of specs/Laws, as a contract: the function does nothing.
+pub fn sweep_laws()
+    ensures { λ _. ⌜ SweepLaws ⌝ }
+{}

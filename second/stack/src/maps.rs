@@ -1,0 +1,167 @@
+//! Calls that have the most to do in a zone: every fragment is as short as it
+//! can be.
+
+use reference::case::{Call, Case, CALLS};
+use reference::generate::build;
+use reference::geometry::{DiscRecord, Geometry};
+use reference::map::Owner;
+
+/// The object that is listed, swept, released and placed.
+const OBJECT: u32 = 3;
+
+/// Another object, that has what is left.
+const OTHER: u32 = 4;
+
+/// A fragment's place: its index within its zone, how many come after it
+/// there, and whether the zone is the last.
+#[derive(Clone, Copy)]
+struct Place {
+    index: usize,
+    after: usize,
+    last_zone: bool,
+}
+
+/// Who has the fragment at a place.
+type Layout = fn(Place) -> Owner;
+
+/// In some the call has a whole zone before it, in some a whole zone after it,
+/// and in some it is at work everywhere.
+const LAYOUTS: [(&str, Layout); 7] = [
+    ("one object", |_| Owner::Object(OBJECT)),
+    ("two objects in turn", |at| {
+        by(at.index % 2 == 0, Owner::Object(OTHER))
+    }),
+    ("an object and holes in turn", |at| {
+        by(at.index % 2 == 0, Owner::Free)
+    }),
+    ("the object first in each zone", |at| {
+        by(at.index < 2, Owner::Object(OTHER))
+    }),
+    ("the object last in each zone", |at| {
+        by(at.after == 0, Owner::Object(OTHER))
+    }),
+    ("the object first in the last zone", |at| {
+        by(at.index < 2 && at.last_zone, Owner::Object(OTHER))
+    }),
+    ("the object last in the last zone", |at| {
+        by(at.after == 0 && at.last_zone, Owner::Object(OTHER))
+    }),
+];
+
+fn by(object: bool, otherwise: Owner) -> Owner {
+    if object {
+        Owner::Object(OBJECT)
+    } else {
+        otherwise
+    }
+}
+
+/// The bytes of disc image that are swept.
+const WINDOW: usize = 1 << 16;
+
+/// A call, and on what map it is made.
+pub struct Subject {
+    pub on: String,
+    pub case: Case,
+}
+
+/// Records with as many short fragments to a zone as they can have: every
+/// block size and id length, one zone and several.
+fn records() -> Vec<DiscRecord> {
+    let mut records = Vec::new();
+    for log2secsize in 8..=10u8 {
+        let zone_bits = (8 << log2secsize) - 32;
+        for idlen in log2secsize + 3..=15 {
+            for nzones in [1, 2, 5] {
+                records.push(DiscRecord {
+                    log2secsize,
+                    idlen,
+                    // A map bit for each sector: fragments need not be in
+                    // longer clusters.
+                    log2bpmb: log2secsize,
+                    nzones,
+                    zone_spare: 32,
+                    disc_size: (nzones as u32 * zone_bits - 480) << log2secsize,
+                });
+            }
+        }
+    }
+    records
+}
+
+/// A zone of shortest fragments, the last one longer where bits are left.
+fn zone(geometry: &Geometry, zone: usize, layout: Layout) -> Vec<(Owner, usize)> {
+    let bits = geometry.end_block_bit() - geometry.first_block_bit(zone);
+    let shortest = geometry.shortest_fragment;
+    let number = bits / shortest;
+    let place = |index| Place {
+        index,
+        after: number - 1 - index,
+        last_zone: zone + 1 == geometry.nzones,
+    };
+    let mut parts: Vec<_> = (0..number)
+        .map(|index| (layout(place(index)), shortest))
+        .collect();
+    parts[number - 1].1 += bits % shortest;
+    if zone == geometry.middle_zone() {
+        parts[0].0 = Owner::Object(2);
+    }
+    parts
+}
+
+/// Every call on one map; the place and a claim on what the release leaves.
+fn calls(geometry: &Geometry, map: &[u8]) -> Vec<Case> {
+    let room = vec![0; 2 * geometry.ids()];
+    let case = |call, map: &[u8], wide| {
+        let mut case = Case::new(call, map);
+        case.number = OBJECT;
+        case.wide = wide;
+        case.list = room.clone();
+        if call == Call::Address {
+            case.number = OBJECT << 8;
+        }
+        if call.writes_image() {
+            case.image = vec![0; WINDOW];
+        }
+        case
+    };
+
+    let mut cases: Vec<Case> = CALLS
+        .into_iter()
+        .filter(|call| *call != Call::Place)
+        .map(|call| case(call, map, 1))
+        .collect();
+    // No hole is as long as the disc, so all are looked at.
+    cases.push(case(Call::Claim, map, geometry.disc_size));
+
+    let released = case(Call::Release, map, 0).run();
+    assert_eq!(released.number, 0, "the object is released");
+    let mut place = case(Call::Place, &released.map, 0);
+    place.list = released.list[..2 * released.values[0] as usize].to_vec();
+    assert_eq!(place.run().map, map, "and placed again");
+    cases.push(place);
+    cases.push(case(Call::Claim, &released.map, 1));
+    cases
+}
+
+/// Every call, on every map.
+pub fn subjects() -> Vec<Subject> {
+    let mut subjects = Vec::new();
+    for record in records() {
+        let geometry = Geometry::accept(&record).expect("a record inside its ranges");
+        for (who, layout) in LAYOUTS {
+            let zones: Vec<_> = (0..geometry.nzones)
+                .map(|index| zone(&geometry, index, layout))
+                .collect();
+            let on = format!(
+                "blocks of {} bytes, idlen {}, zones: {}; {who}",
+                geometry.sector_size, geometry.idlen, geometry.nzones
+            );
+            for case in calls(&geometry, &build(&record, &zones)) {
+                let on = on.clone();
+                subjects.push(Subject { on, case });
+            }
+        }
+    }
+    subjects
+}
