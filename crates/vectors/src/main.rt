@@ -26,147 +26,62 @@ fn next_case() -> bool {
     true
 }
 
-// Lends a case its buffers: what it starts with, and what the call works on. They are as long as the largest map, list and image of a
-// stored case. The parts are cut one after another, each in a function of its own, so that every proof has few loans to follow.
+// A case with its buffers, each as long as twice the longest map, list or image of a stored case: the part that the call works on, and after
+// it the same as it was read.
 fn run_case(head: &[u8; 32]) {
-    let mut old_map = [0u8; 32768];
-    let mut map = [0u8; 32768];
-    let mut old_list = [0u32; 1024];
-    let mut list = [0u32; 1024];
-    let mut old_image = [0u8; 16384];
-    let mut image = [0u8; 16384];
-    cut_map(
-        head,
-        &mut old_map,
-        &mut map,
-        &mut old_list,
-        &mut list,
-        &mut old_image,
-        &mut image,
-    );
+    let mut map = [0u8; 65536];
+    let mut list = [0u32; 2048];
+    let mut image = [0u8; 32768];
+    let m = at_most(number(head, 16), 32768);
+    let k = at_most(number(head, 20), 1024);
+    let n = at_most(number(head, 24), 16384);
+    run_parts(head, &mut map, m, &mut list, k, &mut image, n);
 }
 
-// Cuts the map to the length that the head names.
-fn cut_map(
+// The parts are lent on as slices, whose lengths the proof can follow through the calls.
+fn run_parts(
     head: &[u8; 32],
-    old_map: &mut [u8],
     map: &mut [u8],
-    old_list: &mut [u32],
+    m: usize,
     list: &mut [u32],
-    old_image: &mut [u8],
+    k: usize,
     image: &mut [u8],
-) {
-    let n = at_most(number(head, 16), old_map.len());
-    let m = at_most(number(head, 16), map.len());
-    cut_list(
-        head,
-        &mut old_map[0..n],
-        &mut map[0..m],
-        old_list,
-        list,
-        old_image,
-        image,
-    );
+    n: usize,
+)
+    requires { ⌜ (2 * m ≤ length (now map)) × (2 * k ≤ length (now list)) × (2 * n ≤ length (now image)) ⌝ }
+{
+    read_bytes(map, m);
+    read_list(list, k);
+    read_bytes(image, n);
+    run_call(head, &mut map[0..m], &mut list[0..k], &mut image[0..n]);
+    print_changes(head, map, m, list, k, image, n);
 }
 
-// Cuts the list to the length that the head names.
-fn cut_list(
+// What changed of the list, the map and the image, of a call that may write it.
+fn print_changes(
     head: &[u8; 32],
-    old_map: &mut [u8],
-    map: &mut [u8],
-    old_list: &mut [u32],
-    list: &mut [u32],
-    old_image: &mut [u8],
-    image: &mut [u8],
-) {
-    let n = at_most(number(head, 20), old_list.len());
-    let m = at_most(number(head, 20), list.len());
-    cut_image(
-        head,
-        old_map,
-        map,
-        &mut old_list[0..n],
-        &mut list[0..m],
-        old_image,
-        image,
-    );
-}
-
-// Cuts the image to the length that the head names.
-fn cut_image(
-    head: &[u8; 32],
-    old_map: &mut [u8],
-    map: &mut [u8],
-    old_list: &mut [u32],
-    list: &mut [u32],
-    old_image: &mut [u8],
-    image: &mut [u8],
-) {
-    let n = at_most(number(head, 24), old_image.len());
-    let m = at_most(number(head, 24), image.len());
-    run_cut(
-        head,
-        old_map,
-        map,
-        old_list,
-        list,
-        &mut old_image[0..n],
-        &mut image[0..m],
-    );
-}
-
-fn run_cut(
-    head: &[u8; 32],
-    old_map: &mut [u8],
-    map: &mut [u8],
-    old_list: &mut [u32],
-    list: &mut [u32],
-    old_image: &mut [u8],
-    image: &mut [u8],
-) {
-    read_parts(old_map, map, old_list, list, old_image, image);
-    run_call(head, map, list, image);
-    print_list(head, old_list, list);
-    print_map(head, old_map, map);
-    print_image(head, old_image, image);
-    print_text(b"\n");
-}
-
-fn read_parts(
-    old_map: &mut [u8],
-    map: &mut [u8],
-    old_list: &mut [u32],
-    list: &mut [u32],
-    old_image: &mut [u8],
-    image: &mut [u8],
-) {
-    read_bytes(old_map, map);
-    read_list(old_list, list);
-    read_bytes(old_image, image);
-}
-
-// The entries that changed, of a call that may write the list.
-fn print_list(head: &[u8; 32], old: &[u32], new: &[u32]) {
+    map: &[u8],
+    m: usize,
+    list: &[u32],
+    k: usize,
+    image: &[u8],
+    n: usize,
+)
+    requires { ⌜ (2 * m ≤ length (now map)) × (2 * k ≤ length (now list)) × (2 * n ≤ length (now image)) ⌝ }
+{
     if writes_list(head[0]) {
         print_text(b" list");
-        print_changed_entries(old, new);
+        print_changed_entries(list, k);
     }
-}
-
-// The bytes that changed, of a call that may write the map.
-fn print_map(head: &[u8; 32], old: &[u8], new: &[u8]) {
     if writes_map(head[0]) {
         print_text(b" map");
-        print_changed_bytes(old, new);
+        print_changed_bytes(map, m);
     }
-}
-
-// The runs that changed, of a call that may write the image.
-fn print_image(head: &[u8; 32], old: &[u8], new: &[u8]) {
     if writes_image(head[0]) {
         print_text(b" image");
-        print_changed_runs(old, new);
+        print_changed_runs(image, n);
     }
+    print_text(b"\n");
 }
 
 fn writes_list(call: u8) -> bool {
@@ -342,32 +257,38 @@ fn entry(x: u32) -> usize {
     x as usize
 }
 
-fn print_changed_entries(old: &[u32], new: &[u32]) {
+fn print_changed_entries(list: &[u32], n: usize)
+    requires { ⌜ 2 * n ≤ length (now list) ⌝ }
+{
     let mut i = 0;
-    while i < new.len() && i < old.len() {
-        if old[i] != new[i] {
-            print_change(i, entry(new[i]));
+    while i < n {
+        if list[i] != list[n + i] {
+            print_change(i, entry(list[i]));
         }
         i += 1;
     }
 }
 
-fn print_changed_bytes(old: &[u8], new: &[u8]) {
+fn print_changed_bytes(bytes: &[u8], n: usize)
+    requires { ⌜ 2 * n ≤ length (now bytes) ⌝ }
+{
     let mut i = 0;
-    while i < new.len() && i < old.len() {
-        if old[i] != new[i] {
-            print_change(i, bits::wide(new[i]));
+    while i < n {
+        if bytes[i] != bytes[n + i] {
+            print_change(i, bits::wide(bytes[i]));
         }
         i += 1;
     }
 }
 
 // ` FROM..TO` of each run of bytes that changed.
-fn print_changed_runs(old: &[u8], new: &[u8]) {
+fn print_changed_runs(bytes: &[u8], n: usize)
+    requires { ⌜ 2 * n ≤ length (now bytes) ⌝ }
+{
     let mut inside = false;
     let mut i = 0;
-    while i < new.len() && i < old.len() {
-        let changed = old[i] != new[i];
+    while i < n {
+        let changed = bytes[i] != bytes[n + i];
         print_edge(inside, changed, i);
         inside = changed;
         i += 1;
@@ -389,23 +310,27 @@ fn print_edge(inside: bool, changed: bool, i: usize) {
     }
 }
 
-// Reads bytes, twice over.
-fn read_bytes(old: &mut [u8], new: &mut [u8]) {
-    io::read_full(0, old);
+// Reads n bytes, and keeps them once more after the first n.
+fn read_bytes(bytes: &mut [u8], n: usize)
+    requires { ⌜ 2 * n ≤ length (now bytes) ⌝ }
+{
+    io::read_full(0, &mut bytes[0..n]);
     let mut i = 0;
-    while i < new.len() && i < old.len() {
-        new[i] = old[i];
+    while i < n {
+        bytes[n + i] = bytes[i];
         i += 1;
     }
 }
 
-// Reads the entries of a list, lowest byte first, twice over.
-fn read_list(old: &mut [u32], new: &mut [u32]) {
+// Reads n entries of a list, lowest byte first, and keeps them once more after the first n.
+fn read_list(list: &mut [u32], n: usize)
+    requires { ⌜ 2 * n ≤ length (now list) ⌝ }
+{
     let mut i = 0;
-    while i < new.len() && i < old.len() {
+    while i < n {
         let x = read_entry();
-        old[i] = x;
-        new[i] = x;
+        list[i] = x;
+        list[n + i] = x;
         i += 1;
     }
 }

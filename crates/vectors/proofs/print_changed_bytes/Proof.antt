@@ -1,15 +1,17 @@
--- Element after element, each within both slices.
-use Prim.Native.Nat.{_≤_, _-_}
-use lib.ListN.{length}
 use borrow.Author.Needs.{needs}
+use Prim.Native.Nat.{_-_, _≤_}
 use Rattle.vectors.proofs.print_changed_bytes.Statement.{statement}
 use Rattle.vectors.proofs.print_changed_bytes.Tie as tie
+use Rattle.vectors.proofs.print_changed_bytes.Reads as reads
+use Rattle.vectors.proofs.print_changed_bytes.Lts as lts
+use Rattle.bits.proofs.wide.Reads as wide-reads
+use Rattle.vectors.proofs.print_change.Reads as print-change-reads
 
 abbrev Inv-loop : tie.InvT-loop
-Inv-loop old new i₀ i = i ≤ length new
+Inv-loop bytes n i₀ i = i ≤ n
 
 abbrev μ-loop : tie.MeasureT-loop
-μ-loop old new i₀ i = length new - i
+μ-loop bytes n i₀ i = n - i
 
 pub print-changed-bytes-spec : {M : Type 1} → statement M
 print-changed-bytes-spec =
@@ -21,9 +23,9 @@ print-changed-bytes-spec =
     (λ c. search needs)
     (λ c. search needs)
     (λ c. search needs)
-    (λ c κs. search needs)
-    (λ c κs. search needs)
     (λ c. search needs)
+    (λ c κs. search needs)
+    (λ c κs. search needs)
     (λ c. search needs)
     (λ c. search needs)
     (λ c. search needs)

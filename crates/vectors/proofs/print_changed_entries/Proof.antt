@@ -1,15 +1,17 @@
--- Element after element, each within both slices.
-use Prim.Native.Nat.{_≤_, _-_}
-use lib.ListN.{length}
 use borrow.Author.Needs.{needs}
+use Prim.Native.Nat.{_-_, _≤_}
 use Rattle.vectors.proofs.print_changed_entries.Statement.{statement}
 use Rattle.vectors.proofs.print_changed_entries.Tie as tie
+use Rattle.vectors.proofs.print_changed_entries.Reads as reads
+use Rattle.vectors.proofs.print_changed_entries.Lts as lts
+use Rattle.vectors.proofs.entry.Reads as entry-reads
+use Rattle.vectors.proofs.print_change.Reads as print-change-reads
 
 abbrev Inv-loop : tie.InvT-loop
-Inv-loop old new i₀ i = i ≤ length new
+Inv-loop list n i₀ i = i ≤ n
 
 abbrev μ-loop : tie.MeasureT-loop
-μ-loop old new i₀ i = length new - i
+μ-loop list n i₀ i = n - i
 
 pub print-changed-entries-spec : {M : Type 1} → statement M
 print-changed-entries-spec =
@@ -24,9 +26,9 @@ print-changed-entries-spec =
     (λ c. search needs)
     (λ c. search needs)
     (λ c. search needs)
-    (λ c κs. search needs)
-    (λ c κs. search needs)
     (λ c. search needs)
+    (λ c κs. search needs)
+    (λ c κs. search needs)
     (λ c. search needs)
     (λ c. search needs)
     (λ c. search needs)

@@ -1,15 +1,16 @@
--- Element after element, each within both slices.
-use Prim.Native.Nat.{_≤_, _-_}
-use lib.ListN.{length}
 use borrow.Author.Needs.{needs}
+use Prim.Native.Nat.{_-_, _≤_}
 use Rattle.vectors.proofs.print_changed_runs.Statement.{statement}
 use Rattle.vectors.proofs.print_changed_runs.Tie as tie
+use Rattle.vectors.proofs.print_changed_runs.Reads as reads
+use Rattle.vectors.proofs.print_changed_runs.Lts as lts
+use Rattle.vectors.proofs.print_edge.Reads as print-edge-reads
 
 abbrev Inv-loop : tie.InvT-loop
-Inv-loop old new inside₀ i₀ inside i = i ≤ length new
+Inv-loop bytes n inside₀ i₀ inside i = i ≤ n
 
 abbrev μ-loop : tie.MeasureT-loop
-μ-loop old new inside₀ i₀ inside i = length new - i
+μ-loop bytes n inside₀ i₀ inside i = n - i
 
 pub print-changed-runs-spec : {M : Type 1} → statement M
 print-changed-runs-spec =
@@ -17,6 +18,7 @@ print-changed-runs-spec =
     (tie.spec
     Inv-loop
     μ-loop
+    (λ c. search needs)
     (λ c. search needs)
     (λ c. search needs)
     (λ c. search needs)

@@ -1,23 +1,18 @@
--- Byte after byte, each within both slices.
-use mathlib.Core.Path.{_≡_}
-use Prim.Native.Nat.{_≤_, _-_}
-use lib.ListN.{length, length-set}
-use native.Mathlib.Omega.{arith}
 use borrow.Author.Needs.{needs}
+use Prim.Native.Nat.{_-_, _≤_}
+use mathlib.Core.Path.{_≡_}
+use lib.ListN.{length}
 use Rattle.vectors.proofs.read_bytes.Statement.{statement}
 use Rattle.vectors.proofs.read_bytes.Tie as tie
+use Rattle.vectors.proofs.read_bytes.Reads as reads
+use Rattle.vectors.proofs.read_bytes.Lts as lts
+use Rattle.io.proofs.read_full.Reads as read-full-reads
 
 abbrev Inv-loop : tie.InvT-loop
-Inv-loop old new₀ i₀ new i = (i ≤ length new) × (length new ≡ length new₀)
+Inv-loop bytes₀ n i₀ bytes i = (i ≤ n) × (length bytes ≡ length bytes₀)
 
 abbrev μ-loop : tie.MeasureT-loop
-μ-loop old new₀ i₀ new i = length new - i
-
-loop-less : tie.Need-loop-less Inv-loop μ-loop
-loop-less c = simp length-set (omega arith)
-
-loop-again : tie.Need-loop-again Inv-loop μ-loop
-loop-again c = simp length-set (omega arith)
+μ-loop bytes₀ n i₀ bytes i = n - i
 
 pub read-bytes-spec : {M : Type 1} → statement M
 read-bytes-spec =
@@ -25,13 +20,13 @@ read-bytes-spec =
     (tie.spec
     Inv-loop
     μ-loop
+    (λ c. search needs)
+    (λ c. search needs)
+    (λ c. search needs)
     (λ c κs. search needs)
     (λ c. search needs)
     (λ c. search needs)
     (λ c. search needs)
-    (λ c. search needs)
-    loop-less
-    loop-again
     (λ c. search needs)
     (λ c. search needs)
     (λ c. search needs)

@@ -1,23 +1,23 @@
--- Entry after entry, each within both lists.
+use borrow.Author.Needs.{needs}
+use Prim.Native.Nat.{_-_, _≤_}
 use mathlib.Core.Path.{_≡_}
-use Prim.Native.Nat.{_≤_, _-_}
 use lib.ListN.{length, length-set}
 use native.Mathlib.Omega.{arith}
-use borrow.Author.Needs.{needs}
 use Rattle.vectors.proofs.read_list.Statement.{statement}
 use Rattle.vectors.proofs.read_list.Tie as tie
+use Rattle.vectors.proofs.read_list.Reads as reads
+use Rattle.vectors.proofs.read_list.Lts as lts
+use Rattle.vectors.proofs.read_entry.Reads as read-entry-reads
 
 abbrev Inv-loop : tie.InvT-loop
-Inv-loop old₀ new₀ i₀ old new i = (i ≤ length new) × (length new ≡ length new₀) × (length old ≡ length old₀)
+Inv-loop list₀ n i₀ list i = (i ≤ n) × (length list ≡ length list₀)
 
 abbrev μ-loop : tie.MeasureT-loop
-μ-loop old₀ new₀ i₀ old new i = length new - i
+μ-loop list₀ n i₀ list i = n - i
 
-loop-less : tie.Need-loop-less Inv-loop μ-loop
-loop-less c = simp length-set (omega arith)
-
-loop-again : tie.Need-loop-again Inv-loop μ-loop
-loop-again c = simp length-set (omega arith)
+-- src/main.rt:318:9
+slice-write-list-2 : tie.Need-slice-write-list-2 Inv-loop μ-loop
+slice-write-list-2 c = simp length-set (omega arith)
 
 pub read-list-spec : {M : Type 1} → statement M
 read-list-spec =
@@ -31,10 +31,7 @@ read-list-spec =
     (λ c. search needs)
     (λ c. search needs)
     (λ c. search needs)
-    (λ c. search needs)
-    loop-less
-    loop-again
-    (λ c. search needs)
+    slice-write-list-2
     (λ c. search needs)
     (λ c. search needs)
     (λ c. search needs)
