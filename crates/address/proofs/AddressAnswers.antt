@@ -27,7 +27,8 @@ use Rattle.address.specs.declared.Seek.the-variants as found
 use Rattle.address.specs.declared.Reached.{Reached}
 use Rattle.address.specs.declared.Reached.the-variants as reached
 use Rattle.address.specs.Address.{startOffset, seek, seekOf, within, addressRead, addressFound, addressAnswer}
-use Rattle.address.proofs.SeekOn.{found-at, found-past, goOn, seek-append, totalLength, total-append, total-apart, seek-past}
+use Rattle.address.specs.Refusals.{totalLength}
+use Rattle.address.proofs.SeekOn.{found-at, found-past, goOn, seek-append, total-append, total-apart, seek-past}
 
 -- a byte sought from the start zone on, and what is left of it in the zones before
 module _ (g : Geometry) (id : ℕ) (m : List ℕ) (start i : ℕ) {r : Seek} (er : r ≡ seekOf (seek (g .unit) (heldFrom g id m start (g .zones - start)) i)) where

@@ -10,7 +10,7 @@ use borrow.Author.Tests.{ltb-true, ltb-false}
 use Rattle.bits.proofs.Tests.{by-test}
 use Rattle.model.specs.Chain.{Pair}
 use Rattle.address.specs.Address.{at, past, seek}
-use Rattle.address.specs.Laws.{addressesFrom, joined}
+use Rattle.address.specs.Refusals.{addressesFrom, joined, totalLength}
 
 length-addresses : (a n : ℕ) → length (addressesFrom a n) ≡ n
 length-addresses a zero = refl
@@ -28,6 +28,10 @@ module _ (unit : ℕ) where
   length-joined : (q : Pair) (qs : List Pair) → length (joined unit (q ∷ qs)) ≡ q .len * unit + length (joined unit qs)
   length-joined q qs =
       length-append (addressesFrom (q .start * unit) (q .len * unit)) (joined unit qs) ∙ ap (λ (n : ℕ). n + length (joined unit qs)) (length-addresses (q .start * unit) (q .len * unit))
+
+  pub length-total : (qs : List Pair) → length (joined unit qs) ≡ totalLength qs * unit
+  length-total [] = omega arith
+  length-total (q ∷ qs) = omega (arith, length-joined q qs, length-total qs)
 
   pub joined-found : (qs : List Pair) (i : ℕ) → i < length (joined unit qs) → seek unit qs i ≡ at (getD (joined unit qs) i 0)
   joined-found [] i h = absurd (omega arith)

@@ -11,6 +11,8 @@ use Rattle.model.specs.Pieces.{piecesOfZones, objectPairs}
 use Rattle.listing.proofs.Laws.{accepted, same-zones}
 use Rattle.address.specs.Address.{Sought, at, seek}
 use Rattle.address.specs.Laws.{AddressLaws}
+use Rattle.address.proofs.ByTable.{address-by-table}
+use Rattle.address.proofs.OwnAnswers.{answer-is-byte, one-byte, answer-on-disc}
 use Rattle.address.proofs.Joined.{joined-found, joined-ends}
 use Rattle.address.proofs.OneToOne.{object-one-to-one}
 use Rattle.address.proofs.DiscEnd.{object-on-disc}
@@ -30,4 +32,13 @@ module _ (m : List ℕ) (ess : List (List Entry)) (e : mapRead m ≡ answered es
   on-disc id i x = rw (sym (same-zones m ess e)) (object-on-disc (accepted m ess e) id i x)
 
 pub address-laws : AddressLaws
-address-laws = record { joined-found = joined-found; joined-ends = joined-ends; one-to-one = one-to-one; on-disc = on-disc }
+address-laws = record {
+  address-by-table = address-by-table;
+  answer-is-byte = answer-is-byte;
+  one-byte = one-byte;
+  answer-on-disc = answer-on-disc;
+  joined-found = joined-found;
+  joined-ends = joined-ends;
+  one-to-one = one-to-one;
+  on-disc = on-disc;
+}

@@ -1,7 +1,9 @@
 pub mod Bounds
 pub mod SeekOn
-pub mod AddressAnswers
 pub mod Joined
+pub mod ByTable
+pub mod AddressAnswers
 pub mod OneToOne
 pub mod DiscEnd
+pub mod OwnAnswers
 pub mod Laws

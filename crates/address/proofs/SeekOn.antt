@@ -21,6 +21,7 @@ use Rattle.listing.proofs.Ascend.{Apart}
 use Rattle.address.specs.declared.Seek.{Seek}
 use Rattle.address.specs.declared.Seek.the-variants as found
 use Rattle.address.specs.Address.{Sought, at, past, seek, seekOf}
+use Rattle.address.specs.Refusals.{totalLength}
 
 -- the answer is what was sought
 pub found-at : (s : Sought) (a : ℕ) → seekOf s ≡ found.At a → s ≡ at a
@@ -77,10 +78,6 @@ module _ (h : ℕ) {m : List ℕ} {g : Geometry} {w : Walk} {r : Step} (a : Adva
   line-past {j} e = sym (ap (goOn unit others) (found-past this j (sym eq ∙ e))) ∙ on
 
 -- all the pairs' bits together
-abbrev pub totalLength : List Pair → ℕ
-totalLength [] = 0
-totalLength (q ∷ qs) = q .len + totalLength qs
-
 pub total-append : (ps qs : List Pair) → totalLength (ps ++ qs) ≡ totalLength ps + totalLength qs
 total-append [] qs = omega arith
 total-append (p ∷ ps) qs = omega (arith, total-append ps qs)

@@ -1,30 +1,36 @@
 -- What holds of addresses on an accepted map (demand 2). Assumes nothing.
 use mathlib.Core.Path.{_≡_}
-use mathlib.Core.List.{List, [], _∷_, _++_}
-use Prim.Native.Nat.{ℕ, zero, suc, _*_, _<_}
+use mathlib.Core.List.{List}
+use Prim.Native.Nat.{ℕ, _+_, _<_}
 use lib.ListN.{length, getD}
 use Rattle.geometry.specs.Record.{geometryOf}
 use Rattle.model.specs.Chain.{Pair, Entry}
 use Rattle.model.specs.Answer.{answered}
 use Rattle.model.specs.Check.{mapRead}
 use Rattle.model.specs.Pieces.{piecesOfZones, objectPairs}
-use Rattle.address.specs.Address.{seek, at}
-
--- the addresses of pieces joined in order, one after another
-abbrev pub addressesFrom : ℕ → ℕ → List ℕ
-addressesFrom a zero = []
-addressesFrom a (suc n) = a ∷ addressesFrom (suc a) n
-
-abbrev pub joined : ℕ → List Pair → List ℕ
-joined unit [] = []
-joined unit (q ∷ qs) = addressesFrom (q .start * unit) (q .len * unit) ++ joined unit qs
+use Rattle.model.specs.Refusals.{ByTable, Exactly}
+use Rattle.listing.specs.Listed.{objectFound}
+use Rattle.address.specs.Address.{idOf, startOffset, seek, at, addressFound}
+use Rattle.address.specs.Refusals.{joined, addressLines, byteAddress}
 
 pub record AddressLaws : Type 0 where
+  -- the call answers what its lines of the table say, in its order, and nothing else: each refusal "exactly when"
+  pub address-by-table : (m : List ℕ) (n position : ℕ) → Exactly (ByTable m (addressLines m n position) (byteAddress m n position)) (addressFound m n position)
+  -- The call's own answers. It answers the address of that byte of the object as `list` answers it;
+  pub answer-is-byte : (m : List ℕ) (n position a : ℕ) → addressFound m n position ≡ answered a
+      → (room : ℕ) (qs : List Pair) → objectFound m (idOf n) room ≡ answered qs
+      → let g = geometryOf m in (startOffset g n + position < length (joined (g .unit) qs)) × (a ≡ getD (joined (g .unit) qs) (startOffset g n + position) 0)
+  -- two answers of one address speak of one object and of one byte of it, so two positions of a file have two addresses;
+  pub one-byte : (m : List ℕ) (n k i j a : ℕ) → addressFound m n i ≡ answered a → addressFound m k j ≡ answered a
+      → (idOf n ≡ idOf k) × (startOffset (geometryOf m) n + i ≡ startOffset (geometryOf m) k + j)
+  -- and every address lies on the disc
+  pub answer-on-disc : (m : List ℕ) (n position a : ℕ) → addressFound m n position ≡ answered a → a < (geometryOf m) .size
   -- byte i of the joined pieces is found at its address, and nothing past their end
   pub joined-found : (unit : ℕ) (qs : List Pair) (i : ℕ) → i < length (joined unit qs) → seek unit qs i ≡ at (getD (joined unit qs) i 0)
   pub joined-ends : (unit : ℕ) (qs : List Pair) (i a : ℕ) → seek unit qs i ≡ at a → i < length (joined unit qs)
   -- two positions of an object give different addresses
-  pub one-to-one : (m : List ℕ) (ess : List (List Entry)) → mapRead m ≡ answered ess → (id i j a : ℕ) → let g = geometryOf m in let qs = objectPairs g id (piecesOfZones g 0 ess) in
+  pub one-to-one : (m : List ℕ) (ess : List (List Entry)) → mapRead m ≡ answered ess → (id i j a : ℕ) → let g = geometryOf m in
+      let qs = objectPairs g id (piecesOfZones g 0 ess) in
       seek (g .unit) qs i ≡ at a → seek (g .unit) qs j ≡ at a → i ≡ j
   -- an object other than 1 lies on the disc
   pub on-disc : (m : List ℕ) (ess : List (List Entry)) → mapRead m ≡ answered ess → (id i a : ℕ) → (id ≡ 1 → ⊥) → let g = geometryOf m in

@@ -1,64 +1,103 @@
 -- Which empty programs the contracts shut out (document 01, "Which empty programs each statement shuts out"): no call's contract can
 -- be met by a program that refuses always, that gives one answer always or that writes nothing, nor a sweep's by one that writes
--- everywhere. Answers and bytes are named as the contracts name them. Assumes nothing.
+-- everywhere. The contracts are the promises of the calls themselves. Assumes nothing.
 use mathlib.Core.Path.{_≡_}
 use mathlib.Core.List.{List}
 use Prim.Native.Nat.{ℕ}
 use lib.ListN.{length, replicate}
 use Rattle.geometry.specs.declared.Refusal.{Refusal}
-use Rattle.map.specs.Checked.{checked}
+use Rattle.map.specs.Checked.{Checks}
+use Rattle.map.specs.declared.Checked.{Checked}
 use Rattle.map.specs.declared.Checked.the-variants as check
-use Rattle.listing.specs.Listed.{objectFound, freeFound, listAnswer, listAfter}
+use Rattle.listing.specs.Listed.{objectFound, freeFound, Lists}
+use Rattle.listing.specs.declared.Listed.{Listed}
 use Rattle.listing.specs.declared.Listed.the-variants as listed
 use Rattle.address.specs.Address.{addressFound, addressAnswer}
+use Rattle.address.specs.declared.Reached.{Reached}
 use Rattle.address.specs.declared.Reached.the-variants as reached
-use Rattle.sweep.specs.Sweep.{objectSweep, freeSweep, sweepAnswer, imageAfter}
+use Rattle.sweep.specs.Sweep.{objectSweep, freeSweep, Sweeps}
+use Rattle.sweep.specs.declared.Swept.{Swept}
 use Rattle.sweep.specs.declared.Swept.the-variants as swept
-use Rattle.edits.specs.Judge.{release, place, claim}
-use Rattle.edits.specs.Steps.{outcome, step}
-use Rattle.release.specs.Released.{pairsTaken}
-use Rattle.place.specs.Placed as placed
+use Rattle.release.specs.Released.{Releases}
+use Rattle.place.specs.Placed.{Places}
+use Rattle.place.specs.declared.Placed.{Placed}
 use Rattle.place.specs.declared.Placed.the-variants as given
-use Rattle.claim.specs.Claimed as claimed
+use Rattle.claim.specs.Claimed.{Claims}
+use Rattle.claim.specs.declared.Claimed.{Claimed}
 use Rattle.claim.specs.declared.Claimed.the-variants as taken
 
--- every map is refused; every map is given one answer
-abbrev pub Refuses : {A : Type 0} → (Refusal → A) → (List ℕ → A) → Type 0
-Refuses refusal f = (m : List ℕ) → (r : Refusal) × (f m ≡ refusal r)
+-- a contract: of a map and what else a call is handed (H), what it answers (A) and what it leaves of what it is lent (L)
+abbrev pub Contract : Type 0 → Type 0 → Type 0 → Type 1
+Contract H A L = List ℕ → H → A → L → Type 0
 
-abbrev pub OneAnswer : {A : Type 0} → (List ℕ → A) → Type 0
-OneAnswer {A} f = (a : A) × ((m : List ℕ) → f m ≡ a)
+-- some program meets the contract that refuses every map; that answers without reading the map; that leaves what `left` says
+abbrev pub Refuses : {H A L : Type 0} → (Refusal → A) → Contract H A L → Type 0
+Refuses {H} {A} {L} refusal c = (m : List ℕ) (h : H) → (r : Refusal) × (l : L) × c m h (refusal r) l
+
+abbrev pub OneAnswer : {H A L : Type 0} → Contract H A L → Type 0
+OneAnswer {H} {A} {L} c = (h : H) → (a : A) × ((m : List ℕ) → (l : L) × c m h a l)
+
+abbrev pub Leaves : {H A L : Type 0} → (List ℕ → H → L) → Contract H A L → Type 0
+Leaves {H} {A} {L} left c = (m : List ℕ) (h : H) → (a : A) × c m h a (left m h)
+
+pub record NoEmptyAnswer {H A L : Type 0} (refusal : Refusal → A) (c : Contract H A L) : Type 0 where
+  pub refuses : Refuses refusal c → ⊥
+  pub one-answer : OneAnswer c → ⊥
+
+-- The contracts. A list or a stretch that is lent comes last of what is handed in.
+abbrev pub checks : Contract (Unit {0}) Checked (Unit {0})
+checks m h r l = Checks m r
+
+abbrev pub lists : Contract (ℕ × List ℕ) Listed (List ℕ)
+lists m h r new = Lists (objectFound m (h .0) (length (h .1))) (h .1) r new
+
+abbrev pub frees : Contract (List ℕ) Listed (List ℕ)
+frees m old r new = Lists (freeFound m (length old)) old r new
+
+abbrev pub reaches : Contract (ℕ × ℕ) Reached (Unit {0})
+reaches m h r l = r ≡ addressAnswer (addressFound m (h .0) (h .1))
+
+-- id, first address, fill
+abbrev pub sweeps : Contract (ℕ × ℕ × ℕ × List ℕ) Swept (List ℕ)
+sweeps m h r new = Sweeps (objectSweep m (h .0) (h .1) (length (h .3))) (h .1) (h .2) (h .3) r new
+
+abbrev pub sweepsFree : Contract (ℕ × ℕ × List ℕ) Swept (List ℕ)
+sweepsFree m h r new = Sweeps (freeSweep m (h .0) (length (h .2))) (h .0) (h .1) (h .2) r new
+
+-- a release leaves a map and a list: both, then each with the other among the answers
+abbrev pub releases : Contract (ℕ × List ℕ) Listed (List ℕ × List ℕ)
+releases m h r l = Releases m (h .0) (h .1) r (l .0) (l .1)
+
+abbrev pub releasedMap : Contract (ℕ × List ℕ) (Listed × List ℕ) (List ℕ)
+releasedMap m h r after = Releases m (h .0) (h .1) (r .0) after (r .1)
+
+abbrev pub releasedList : Contract (ℕ × List ℕ) (Listed × List ℕ) (List ℕ)
+releasedList m h r new = Releases m (h .0) (h .1) (r .0) (r .1) new
+
+abbrev pub places : Contract (ℕ × List ℕ) Placed (List ℕ)
+places m h r after = Places m (h .0) (h .1) r after
+
+abbrev pub claims : Contract ℕ Claimed (List ℕ)
+claims m size r after = Claims m size r after
 
 pub record EmptyPrograms : Type 0 where
-  pub check-refuses : Refuses check.Refused checked → ⊥
-  pub check-one-answer : OneAnswer checked → ⊥
-  -- list and free: the answer, and the lent list after it
-  pub list-refuses : ((id room : ℕ) → Refuses listed.Refused (λ (m : List ℕ). listAnswer (objectFound m id room))) → ⊥
-  pub list-one-answer : ((id room : ℕ) → OneAnswer (λ (m : List ℕ). listAnswer (objectFound m id room))) → ⊥
-  pub list-writes-nothing : ((m : List ℕ) (id : ℕ) (old : List ℕ) → listAfter old (objectFound m id (length old)) ≡ old) → ⊥
-  pub free-refuses : ((room : ℕ) → Refuses listed.Refused (λ (m : List ℕ). listAnswer (freeFound m room))) → ⊥
-  pub free-one-answer : ((room : ℕ) → OneAnswer (λ (m : List ℕ). listAnswer (freeFound m room))) → ⊥
-  pub free-writes-nothing : ((m old : List ℕ) → listAfter old (freeFound m (length old)) ≡ old) → ⊥
-  pub address-refuses : ((n position : ℕ) → Refuses reached.Refused (λ (m : List ℕ). addressAnswer (addressFound m n position))) → ⊥
-  pub address-one-answer : ((n position : ℕ) → OneAnswer (λ (m : List ℕ). addressAnswer (addressFound m n position))) → ⊥
-  -- sweeps: the count, and the lent stretch after it
-  pub sweep-refuses : ((id first n : ℕ) → Refuses swept.Refused (λ (m : List ℕ). sweepAnswer first n (objectSweep m id first n))) → ⊥
-  pub sweep-one-answer : ((id first n : ℕ) → OneAnswer (λ (m : List ℕ). sweepAnswer first n (objectSweep m id first n))) → ⊥
-  pub sweep-writes-nothing : ((m : List ℕ) (id first fill : ℕ) (old : List ℕ) → imageAfter first fill old (objectSweep m id first (length old)) ≡ old) → ⊥
-  pub sweep-writes-all : ((m : List ℕ) (id first fill : ℕ) (old : List ℕ) → imageAfter first fill old (objectSweep m id first (length old)) ≡ replicate (length old) fill) → ⊥
-  pub free-sweep-refuses : ((first n : ℕ) → Refuses swept.Refused (λ (m : List ℕ). sweepAnswer first n (freeSweep m first n))) → ⊥
-  pub free-sweep-one-answer : ((first n : ℕ) → OneAnswer (λ (m : List ℕ). sweepAnswer first n (freeSweep m first n))) → ⊥
-  pub free-sweep-writes-nothing : ((m : List ℕ) (first fill : ℕ) (old : List ℕ) → imageAfter first fill old (freeSweep m first (length old)) ≡ old) → ⊥
-  pub free-sweep-writes-all : ((m : List ℕ) (first fill : ℕ) (old : List ℕ) → imageAfter first fill old (freeSweep m first (length old)) ≡ replicate (length old) fill) → ⊥
-  -- release: the answer, the map and the lent list after it
-  pub release-refuses : ((id room : ℕ) → Refuses listed.Refused (λ (m : List ℕ). listAnswer (pairsTaken (outcome m (release id room))))) → ⊥
-  pub release-one-answer : ((id room : ℕ) → OneAnswer (λ (m : List ℕ). listAnswer (pairsTaken (outcome m (release id room))))) → ⊥
-  pub release-edits-nothing : ((m : List ℕ) (id room : ℕ) → step m (release id room) ≡ m) → ⊥
-  pub release-writes-nothing : ((m : List ℕ) (id : ℕ) (old : List ℕ) → listAfter old (pairsTaken (outcome m (release id (length old)))) ≡ old) → ⊥
+  pub check : NoEmptyAnswer check.Refused checks
+  pub list : NoEmptyAnswer listed.Refused lists
+  pub list-writes-nothing : Leaves (λ m h. h .1) lists → ⊥
+  pub free : NoEmptyAnswer listed.Refused frees
+  pub free-writes-nothing : Leaves (λ m old. old) frees → ⊥
+  pub address : NoEmptyAnswer reached.Refused reaches
+  pub sweep : NoEmptyAnswer swept.Refused sweeps
+  pub sweep-writes-nothing : Leaves (λ m h. h .3) sweeps → ⊥
+  pub sweep-writes-all : Leaves (λ m h. replicate (length (h .3)) (h .2)) sweeps → ⊥
+  pub free-sweep : NoEmptyAnswer swept.Refused sweepsFree
+  pub free-sweep-writes-nothing : Leaves (λ m h. h .2) sweepsFree → ⊥
+  pub free-sweep-writes-all : Leaves (λ m h. replicate (length (h .2)) (h .1)) sweepsFree → ⊥
+  pub release : NoEmptyAnswer listed.Refused releases
+  pub release-edits-nothing : Leaves (λ m h. m) releasedMap → ⊥
+  pub release-writes-nothing : Leaves (λ m h. h .1) releasedList → ⊥
   -- place, which a version that does everything at release would fake, and claim
-  pub place-refuses : ((id : ℕ) (list : List ℕ) → Refuses given.Refused (λ (m : List ℕ). placed.placeAnswer (outcome m (place id list)))) → ⊥
-  pub place-one-answer : ((id : ℕ) (list : List ℕ) → OneAnswer (λ (m : List ℕ). placed.placeAnswer (outcome m (place id list)))) → ⊥
-  pub place-edits-nothing : ((m : List ℕ) (id : ℕ) (list : List ℕ) → step m (place id list) ≡ m) → ⊥
-  pub claim-refuses : ((size : ℕ) → Refuses taken.Refused (λ (m : List ℕ). claimed.claimAnswer (outcome m (claim size)))) → ⊥
-  pub claim-one-answer : ((size : ℕ) → OneAnswer (λ (m : List ℕ). claimed.claimAnswer (outcome m (claim size)))) → ⊥
-  pub claim-edits-nothing : ((m : List ℕ) (size : ℕ) → step m (claim size) ≡ m) → ⊥
+  pub place : NoEmptyAnswer given.Refused places
+  pub place-edits-nothing : Leaves (λ m h. m) places → ⊥
+  pub claim : NoEmptyAnswer taken.Refused claims
+  pub claim-edits-nothing : Leaves (λ m size. m) claims → ⊥

@@ -3,6 +3,7 @@
 use mathlib.Core.Bool.{true, false}
 use mathlib.Core.List.{List, [], _∷_}
 use Prim.Native.Nat.{ℕ}
+use lib.ListN.{replicate}
 use Rattle.geometry.specs.Record.{geometryFrom, geometryOf, floppyDisc, eightZones}
 use Rattle.checks.specs.Maps.{withBytes, mapA, mapB}
 use Rattle.edits.specs.Judge as call
@@ -28,6 +29,13 @@ lent = 9 ∷ 9 ∷ 9 ∷ 9 ∷ []
 -- A with object 4 placed at (24,12)
 abbrev mapC : List ℕ
 mapC = withBytes ((0, 0x35) ∷ (65, 0x88) ∷ (66, 0x81) ∷ (67, 0x04) ∷ (68, 0x08) ∷ []) mapA
+
+-- A's record with two zones and disc_size 3,637,248: zone 0 free, in zone 1 object 2 at (1536,12) and the rest free
+abbrev mapD : List ℕ
+mapD =
+    withBytes
+    ((0, 0x31) ∷ (1, 0xF8) ∷ (2, 0x81) ∷ (3, 0xFF) ∷ (4, 0x08) ∷ (8, 0x0B) ∷ (9, 0x0A) ∷ (13, 0x02) ∷ (14, 0x20) ∷ (21, 0x80) ∷ (22, 0x37) ∷ (255, 0x80) ∷ (256, 0x2E) ∷ (257, 0x24) ∷ (258, 0x80) ∷ (260, 0x02) ∷ (261, 0x08) ∷ (511, 0x80) ∷ [])
+    (replicate 512 0)
 
 abbrev pub table : List Row
 table =
@@ -98,6 +106,18 @@ table =
     ∷ row (check (withBytes ((23, 0x01) ∷ []) mapA)) (2 ∷ 0 ∷ [])
     ∷ row (check (withBytes ((0, 0x28) ∷ []) mapA)) (3 ∷ 0 ∷ [])
     ∷ row (free (withBytes ((0, 0x28) ∷ []) mapA) lent) (3 ∷ 0 ∷ 0 ∷ 9 ∷ 9 ∷ 9 ∷ 9 ∷ [])
+    -- D is accepted. Refusals that tell its zone 1, each with the checks made right but for 3 and 4: another zone check; cross checks
+    -- that do not give 255, which tells zone 0; FreeLink's top bit clear, or one bit too far; no closing bit; object 3 where 2 is
+    -- to be; two free fragments that touch, (1548,12) and (1560,1992).
+    ∷ row (check mapD) (0 ∷ 0 ∷ [])
+    ∷ row (free mapD lent) (0 ∷ 0 ∷ 2 ∷ 0 ∷ 1536 ∷ 1548 ∷ 2004 ∷ [])
+    ∷ row (check (withBytes ((256, 0x2F) ∷ []) mapD)) (3 ∷ 1 ∷ [])
+    ∷ row (check (withBytes ((256, 0x2F) ∷ (259, 0x01) ∷ []) mapD)) (4 ∷ 0 ∷ [])
+    ∷ row (check (withBytes ((256, 0xAE) ∷ (258, 0x00) ∷ []) mapD)) (5 ∷ 1 ∷ [])
+    ∷ row (check (withBytes ((256, 0x2F) ∷ (257, 0x25) ∷ []) mapD)) (5 ∷ 1 ∷ [])
+    ∷ row (check (withBytes ((256, 0xAE) ∷ (511, 0x00) ∷ []) mapD)) (6 ∷ 1 ∷ [])
+    ∷ row (check (withBytes ((256, 0x2F) ∷ (260, 0x03) ∷ []) mapD)) (7 ∷ 1 ∷ [])
+    ∷ row (claim (withBytes ((256, 0x6F) ∷ (261, 0xC8) ∷ (262, 0x80) ∷ []) mapD) 1) (9 ∷ 1 ∷ 0 ∷ 0 ∷ 0 ∷ [])
     -- Refusals that the rows above leave out: 0 bytes, an id already there, too few entries, a list out of object order.
     ∷ row (claim mapB 0) (12 ∷ 0 ∷ 0 ∷ 0 ∷ 0 ∷ [])
     ∷ row (place mapB 5 (32 ∷ 12 ∷ [])) (11 ∷ 0 ∷ [])

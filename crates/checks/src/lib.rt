@@ -30,7 +30,8 @@ pub fn zone_check(block: &[u8]) -> u8
         i -= 4;
         t = t % 4294967296 + t / 4294967296 + word_at(block, i);
     }
-    let first = word_at(block, 0) - bits::wide(block[0]);
+    let word = word_at(block, 0);
+    let first = word - bits::wide(block[0]);
     fold_bytes(t % 4294967296 + t / 4294967296 + first)
 }
 

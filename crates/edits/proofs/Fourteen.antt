@@ -20,7 +20,7 @@ use Rattle.model.proofs.Options.{none-some}
 use Rattle.edits.specs.Edits.{notOf, without, give, inZone, Edit, takes, gives}
 use Rattle.edits.specs.Holes.{gapFits, apart, allApart, holesFrom}
 use Rattle.model.specs.Answer.{Answer, refused, answered, unless}
-use Rattle.edits.specs.Judge.{Call, release, place, claim, isEmpty, editable, pairsFrom, listFits, need, firstHole, taken, lowest, chooseIn, chosen, byChoice, judge}
+use Rattle.edits.specs.Judge.{Call, release, place, claim, isEmpty, pairsFrom, listFits, need, firstHole, taken, lowest, chooseIn, chosen, byChoice, judgeRest}
 use Rattle.edits.proofs.Kept.{All, all-keep, keep-keep, keep-all, keep-no, length-parts, some-length}
 use Rattle.edits.proofs.Gaps.{gap-of-test, gap-le, isLong}
 use Rattle.edits.proofs.Invariant.{FitPieces}
@@ -122,22 +122,18 @@ module _ (g : Geometry) (l : List Piece) (ok : AcceptedGeometry g) (fit : FitPie
   pub no-fourteen : lowest l (g .ids * g .zones - 3) 3 ≡ none → ⊥
   no-fourteen h = omega (arith, pieces-fewer, ids-few (g .ids * g .zones - 3) 3 l (lowest-used l (g .ids * g .zones - 3) 3 h))
 
--- no call is refused with it
-pub never-fourteen : (g : Geometry) (l : List Piece) (c : Call) {z : ℕ} → AcceptedGeometry g → FitPieces g l → judge g l c ≡ refused 14 z → ⊥
+-- no call that passes 8 and 9 is refused with it
+pub never-fourteen : (g : Geometry) (l : List Piece) (c : Call) {z : ℕ} → AcceptedGeometry g → FitPieces g l → judgeRest g l c ≡ refused 14 z → ⊥
 never-fourteen g l (release id room) ok fit h =
     let qs = objectPairs g id l in
     let v3 = unless (leb (2 * length qs) room) 17 (answered (takes id qs)) in
-    let v2 = unless (not (isEmpty (piecesOf id l))) 10 v3 in
-    let h2 = passed (editable g id) 8 v2 (λ e. omega arith) h in
-    let h3 = passed (not (isEmpty (piecesOf id l))) 10 v3 (λ e. omega arith) h2 in
+    let h3 = passed (not (isEmpty (piecesOf id l))) 10 v3 (λ e. omega arith) h in
     edit-not (takes id qs) (passed (leb (2 * length qs) room) 17 (answered (takes id qs)) (λ e. omega arith) h3)
 never-fourteen g l (place id list) ok fit h =
     let qs = pairsFrom list in
     let v4 = unless (allApart g 0 (g .zones) (give id qs l)) 13 (answered (gives id qs)) in
     let v3 = unless (listFits g id list) 12 v4 in
-    let v2 = unless (isEmpty (piecesOf id l)) 11 v3 in
-    let h2 = passed (editable g id) 8 v2 (λ e. omega arith) h in
-    let h3 = passed (isEmpty (piecesOf id l)) 11 v3 (λ e. omega arith) h2 in
+    let h3 = passed (isEmpty (piecesOf id l)) 11 v3 (λ e. omega arith) h in
     let h4 = passed (listFits g id list) 12 v4 (λ e. omega arith) h3 in
     edit-not (gives id qs) (passed (allApart g 0 (g .zones) (give id qs l)) 13 (answered (gives id qs)) (λ e. omega arith) h4)
 never-fourteen g l (claim size) {z = z} ok fit h =

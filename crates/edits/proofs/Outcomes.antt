@@ -16,7 +16,7 @@ use Rattle.map.specs.Checked.{checked}
 use Rattle.map.specs.declared.Checked.the-variants as check
 use Rattle.map.proofs.Answers.{read-refused}
 use Rattle.edits.specs.Edits.{Edit}
-use Rattle.edits.specs.Judge.{Call, numberFits, judge}
+use Rattle.edits.specs.Judge.{Call, callFits, judge}
 use Rattle.edits.specs.Steps.{byRead, outcome}
 use Rattle.model.specs.Shown.{zonesOf, piecesOn}
 use Rattle.edits.proofs.StepWritten.{outcome-judged}
@@ -33,15 +33,15 @@ module _ {m : List ℕ} {g : Geometry} (a : AcceptedMap m g) (c : Call) where
   read-on = ap (λ (x : Answer (List (List Entry))). andThen x (byRead (geometryOf m) c)) (a .read)
 
   -- 8: "id argument outside .. 3 .. to P*nzones-1"
-  pub id-refused : numberFits g c ≡ false → outcome m c ≡ refused 8 0
+  pub id-refused : callFits g c ≡ false → outcome m c ≡ refused 8 0
   id-refused e =
-      let f : numberFits (geometryOf m) c ≡ false = subst (λ (x : Geometry). numberFits x c ≡ false) (a .geometry) e in
+      let f : callFits (geometryOf m) c ≡ false = subst (λ (x : Geometry). callFits x c ≡ false) (a .geometry) e in
       read-on ∙ rw f
 
   -- 9: "two free fragments of a zone touch"
-  pub touching-refused : numberFits g c ≡ true → (z : ℕ) → touchingOf (touching 0 (zonesOf m)) ≡ told.Zone z → outcome m c ≡ refused 9 z
+  pub touching-refused : callFits g c ≡ true → (z : ℕ) → touchingOf (touching 0 (zonesOf m)) ≡ told.Zone z → outcome m c ≡ refused 9 z
   touching-refused e z t =
-      let f : numberFits (geometryOf m) c ≡ true = subst (λ (x : Geometry). numberFits x c ≡ true) (a .geometry) e in
+      let f : callFits (geometryOf m) c ≡ true = subst (λ (x : Geometry). callFits x c ≡ true) (a .geometry) e in
       let k : touching 0 (a .zones) ≡ some z = ap (touching 0) (sym (zones-are a)) ∙ zone-told (touching 0 (zonesOf m)) z t in
       read-on ∙ rw (f, k)
 

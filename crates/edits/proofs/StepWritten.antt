@@ -24,7 +24,7 @@ use Rattle.model.specs.Shown.{zonesIn}
 use Rattle.model.specs.Answer.{Answer, andThen, Answer, refused, answered, unless}
 use Rattle.model.specs.Check.{blocksRead, blocksOf, lengthFits, mapRead}
 use Rattle.edits.specs.Edits.{Disc, inZone, edit, Edit}
-use Rattle.edits.specs.Judge.{Call, numberFits, judgeRest, judge}
+use Rattle.edits.specs.Judge.{Call, callFits, judgeRest, judge}
 use Rattle.edits.proofs.PieceRuns.{obey, after, run}
 use Rattle.edits.specs.Written.{written, toBlock, rewritten}
 use Rattle.edits.specs.Steps.{discOf, byTouching, byRead, outcome, bytesAfter, step, steps}
@@ -37,11 +37,13 @@ use Rattle.edits.proofs.BytesKept.{map-bytes-written}
 -- a call's outcome, where the check accepts and no two free fragments touch: the verdict on the map's pieces
 pub outcome-judged : (m : List ℕ) (ess : List (List Entry)) → mapRead m ≡ answered ess → touching 0 ess ≡ none → (c : Call)
     → outcome m c ≡ judge (geometryOf m) ((discOf m ess) .pieces) c
-outcome-judged m ess accepted apart c = ap (λ (r : Answer (List (List Entry))). andThen r (byRead (geometryOf m) c)) accepted ∙ by-number (numberFits (geometryOf m) c) refl
+outcome-judged m ess accepted apart c = ap (λ (r : Answer (List (List Entry))). andThen r (byRead (geometryOf m) c)) accepted ∙ by-number (callFits (geometryOf m) c) refl
   where
-    by-number : (b : Bool) → numberFits (geometryOf m) c ≡ b
-        → unless b 8 (byTouching (touching 0 ess) (judge (geometryOf m) ((discOf m ess) .pieces) c)) ≡ judge (geometryOf m) ((discOf m ess) .pieces) c
-    by-number true e = ap (λ (o : Option ℕ). byTouching o (judge (geometryOf m) ((discOf m ess) .pieces) c)) apart
+    by-number : (b : Bool) → callFits (geometryOf m) c ≡ b
+        → unless b 8 (byTouching (touching 0 ess) (judgeRest (geometryOf m) ((discOf m ess) .pieces) c)) ≡ judge (geometryOf m) ((discOf m ess) .pieces) c
+    by-number true e =
+        ap (λ (o : Option ℕ). byTouching o (judgeRest (geometryOf m) ((discOf m ess) .pieces) c)) apart
+        ∙ ap (λ (b : Bool). unless b 8 (judgeRest (geometryOf m) ((discOf m ess) .pieces) c)) (sym e)
     by-number false e = ap (λ (b : Bool). unless b 8 (judgeRest (geometryOf m) ((discOf m ess) .pieces) c)) (sym e)
 
 -- a map of bytes whose record is accepted and gives g

@@ -23,7 +23,7 @@ holesFrom g z zero l = []
 holesFrom g z (suc n) l = holes (zoneFrom g z) (zoneEnd g z) (inZone g z l) ++ holesFrom g (suc z) n l
 
 -- The pieces do not overlap, lie between `at` and `end`, and leave no hole of 1 to m - 1 bits: what refusal 13 asks of the
--- pieces after a place. The contract of `runs::edit_rules` shows that to be document 01's words.
+-- pieces after a place. The contract of `runs::edit_table` shows that to be document 01's words.
 abbrev pub gapFits : ℕ → ℕ → ℕ → Bool
 gapFits m at end = eqb at end || leb (at + m) end
 

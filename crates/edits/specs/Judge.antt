@@ -29,10 +29,10 @@ isEmpty (x ∷ xs) = false
 abbrev pub editable : Geometry → ℕ → Bool
 editable g id = idFrom 3 g id
 
-abbrev pub numberFits : Geometry → Call → Bool
-numberFits g (release id room) = editable g id
-numberFits g (place id list) = editable g id
-numberFits g (claim size) = true
+abbrev pub callFits : Geometry → Call → Bool
+callFits g (release id room) = editable g id
+callFits g (place id list) = editable g id
+callFits g (claim size) = true
 
 -- the pairs of a list that is handed in
 abbrev pub pairsFrom : List ℕ → List Pair
@@ -110,5 +110,6 @@ judgeRest g l (place id list) =
     (answered (gives id (pairsFrom list)))))
 judgeRest g l (claim size) = unless (ltb 0 size) 12 (byChoice (chosen g l size))
 
+-- the verdict on a disc's pieces, where no two free fragments touch: 8, then that
 abbrev pub judge : Geometry → List Piece → Call → Answer Edit
-judge g l c = unless (numberFits g c) 8 (judgeRest g l c)
+judge g l c = unless (callFits g c) 8 (judgeRest g l c)

@@ -13,7 +13,7 @@ use Rattle.model.specs.Check.{mapRead, blocksOf}
 use Rattle.model.specs.Shown.{zonesOf}
 use Rattle.model.specs.Pieces.{piecesOfZones}
 use Rattle.edits.specs.Edits.{Disc, Edit, edit}
-use Rattle.edits.specs.Judge.{Call, numberFits, judge}
+use Rattle.edits.specs.Judge.{Call, callFits, judgeRest}
 use Rattle.edits.specs.Written.{rewritten}
 
 -- the pieces and cross checks of a map that was read
@@ -27,7 +27,7 @@ byTouching none v = v
 
 -- 1 to 7, then 8, then 9, then the rest in table order
 abbrev pub byRead : Geometry → Call → List (List Entry) → Answer Edit
-byRead g c ess = unless (numberFits g c) 8 (byTouching (touching 0 ess) (judge g (piecesOfZones g 0 ess) c))
+byRead g c ess = unless (callFits g c) 8 (byTouching (touching 0 ess) (judgeRest g (piecesOfZones g 0 ess) c))
 
 abbrev pub outcome : List ℕ → Call → Answer Edit
 outcome m c = andThen (mapRead m) (byRead (geometryOf m) c)

@@ -1,6 +1,6 @@
 -- Reading a map's record: the three answers, each from what the tests found, and what each answer says of the map.
 use mathlib.Core.Path.{_≡_, refl, sym, ap, _∙_, subst}
-use mathlib.Core.Bool.{Bool, true, false, _&&_}
+use mathlib.Core.Bool.{Bool, true, false, cond, _&&_}
 use mathlib.Core.List.{List}
 use mathlib.Core.Logic.{_⊎_, inl, inr}
 use Prim.Native.Nat.{ℕ, _<_, _≤_}
@@ -11,11 +11,12 @@ use borrow.Author.Tests.{ltb-true, ltb-false, lt-ltb, le-ltb}
 use Rattle.geometry.specs.declared.DiscRecord.{DiscRecord}
 use Rattle.geometry.specs.declared.Geometry.{Geometry}
 use Rattle.geometry.specs.declared.Refusal.{Refusal}
+use Rattle.geometry.specs.declared.RecordRead.{RecordRead}
 use Rattle.geometry.specs.declared.RecordRead.the-variants as read
 use Rattle.geometry.specs.Record.{discRecord, recordIn, geometryFrom, geometryOf}
 use Rattle.geometry.specs.Ranges.{fieldsFit, geometryFits, recordFits}
 use Rattle.geometry.specs.Accepted.{AcceptedGeometry}
-use Rattle.geometry.specs.Answers.{refusal, byFit, byLength, recordOf}
+use Rattle.geometry.specs.Answers.{refusal, byFit, byLength, recordOf, recordNumbers, ReadsRecord}
 use Rattle.geometry.proofs.Numbers.{test-gives-accepted}
 
 -- from the tests to the answer
@@ -32,6 +33,15 @@ module _ (m : List ℕ) (long : 64 ≤ length m) {r : DiscRecord} (e : r ≡ rec
 
   pub read-geometry : fieldsFit r ≡ true → {g : Geometry} → g ≡ geometryFrom r → {b : Bool} → b ≡ geometryFits g → byFit b g ≡ recordOf m
   read-geometry f {g} h t = ap (λ (x : Bool). byFit x g) t ∙ ap (λ (x : Geometry). byFit (geometryFits x) x) h ∙ (rw f at read-long)
+
+-- the answer's numbers are the table's
+pub reads-record : (m : List ℕ) {r : RecordRead} → r ≡ recordOf m → ReadsRecord m r
+reads-record m e = record { answer = e; numbers = ap recordNumbers e ∙ told (ltb (length m) 64) (recordFits (discRecord m)) }
+  where
+    told : (short fits : Bool) → recordNumbers (byLength short (byFit fits (geometryOf m))) ≡ cond short (1, 0) (cond fits (0, 0) (2, 0))
+    told true fits = refl
+    told false true = refl
+    told false false = refl
 
 -- from the answer to the tests
 module _ (m : List ℕ) where

@@ -8,12 +8,13 @@ use lib.Dec.{eqb, leb, ltb}
 use borrow.Author.Tests.{lt-ltb, le-ltb, ltb-true, ltb-false}
 use Rattle.bits.proofs.Tests.{by-test, both, and-with-false}
 use Rattle.geometry.specs.declared.Geometry.{Geometry}
+use Rattle.geometry.specs.declared.Start.{Start}
 use Rattle.geometry.specs.declared.Start.the-variants as start
 use Rattle.geometry.specs.Record.{geometryFrom, eightZones}
 use Rattle.geometry.specs.Places.{startZone, idFrom}
-use Rattle.geometry.specs.Answers.{refusal, startOf, startNumbers, byName}
+use Rattle.geometry.specs.Answers.{refusal, startOf, startNumbers, byName, StartsAt}
 use Rattle.geometry.specs.declared.Refusal.{Refusal}
-use mathlib.Core.Bool.{Bool, true, false}
+use mathlib.Core.Bool.{Bool, true, false, cond}
 
 -- a product with a number below it has two factors above 0
 pub factors : (p q n : ℕ) → n < p * q → (0 < p) × (0 < q)
@@ -43,6 +44,14 @@ module _ (g : Geometry) (id : ℕ) where
       by-test (ltb (id / g .ids) (g .zones))
       (λ t. let p : id < g .zones * g .ids = div-lt-iff-lt-mul pos .0 (ltb-true _ _ t) in t ∙ sym (lt-ltb _ _ (rw mul-comm at p)))
       (λ t. let p : g .zones * g .ids ≤ id = le-div-iff-mul-le pos .0 (ltb-false _ _ t) in t ∙ sym (le-ltb _ _ (rw mul-comm at p)))
+
+-- the answer's numbers are the paper's
+pub starts-at : (g : Geometry) (low id : ℕ) {r : Start} → r ≡ startOf g low id → StartsAt g low id r
+starts-at g low id e = record { answer = e; numbers = ap startNumbers e ∙ told (idFrom low g id) (startZone g id) }
+  where
+    told : (b : Bool) (z : ℕ) → startNumbers (byName b z) ≡ cond b (0, 0, z) (8, 0, 0)
+    told true z = refl
+    told false z = refl
 
 -- what an answer says of the id: it is named, or it is refused with 8
 pub named : (b : Bool) (z s : ℕ) → byName b z ≡ start.Zone s → (b ≡ true) × (s ≡ z)

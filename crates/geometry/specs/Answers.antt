@@ -1,5 +1,6 @@
 -- What the calls of this crate answer, and the paper's numbers of each answer. Assumes nothing.
-use mathlib.Core.Bool.{Bool, true, false}
+use mathlib.Core.Path.{_≡_}
+use mathlib.Core.Bool.{Bool, true, false, cond}
 use mathlib.Core.List.{List}
 use Prim.Native.Nat.{ℕ}
 use lib.Dec.{ltb}
@@ -35,6 +36,15 @@ abbrev pub recordNumbers : RecordRead → ℕ × ℕ
 recordNumbers (read.Accepted g) = (0, 0)
 recordNumbers (read.Refused r) = (r .number, r .zone)
 
+-- as the table gives them: "map shorter than 64 bytes", "record outside its ranges", zone 0 told
+abbrev pub recordTold : List ℕ → ℕ × ℕ
+recordTold m = cond (ltb (length m) 64) (1, 0) (cond (recordFits (discRecord m)) (0, 0) (2, 0))
+
+-- the answer to a map, and its numbers
+pub record ReadsRecord (m : List ℕ) (r : RecordRead) : Type 0 where
+  pub answer : r ≡ recordOf m
+  pub numbers : recordNumbers r ≡ recordTold m
+
 -- "the start zone of an id from 1 to P*nzones - 1; any other is refused with 8"; and 8 of the table: "id argument outside
 -- 1 (list, start zone), 2 (address) or 3 (sweep, edits) to P*nzones-1"
 abbrev pub byName : Bool → ℕ → Start
@@ -48,3 +58,11 @@ startOf g low id = byName (idFrom low g id) (startZone g id)
 abbrev pub startNumbers : Start → ℕ × ℕ × ℕ
 startNumbers (start.Zone z) = (0, 0, z)
 startNumbers (start.Refused r) = (r .number, r .zone, 0)
+
+abbrev pub startTold : Geometry → ℕ → ℕ → ℕ × ℕ × ℕ
+startTold g low id = cond (idFrom low g id) (0, 0, startZone g id) (8, 0, 0)
+
+-- the answer to an id, and its numbers
+pub record StartsAt (g : Geometry) (low id : ℕ) (r : Start) : Type 0 where
+  pub answer : r ≡ startOf g low id
+  pub numbers : startNumbers r ≡ startTold g low id

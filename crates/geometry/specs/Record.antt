@@ -45,6 +45,7 @@ geometryFrom r =
     let B : ℕ = 2 ^ r .logunit in
     let k : ℕ = clusterOf S B in
     let Z : ℕ = 8 * S - r .spare in
+    let m : ℕ = roundUp (r .idlen + 1) k in
     record {
       sector = S;
       idlen = r .idlen;
@@ -52,7 +53,7 @@ geometryFrom r =
       zones = r .zones;
       cluster = k;
       bits = Z;
-      shortest = roundUp (r .idlen + 1) k;
+      shortest = m;
       ids = Z / (r .idlen + 1);
       size = r .size;
       end = r .size / B;

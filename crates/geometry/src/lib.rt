@@ -10,7 +10,7 @@ ghost use Rattle.geometry.specs.Record.{clusterOf, twoBytes, recordIn, g
 ghost use Rattle.geometry.specs.Ranges.{FieldRules, between, fieldsFit, geometryFits};
 ghost use Rattle.geometry.specs.Accepted.{SmallNumbers, AcceptedGeometry};
 ghost use Rattle.geometry.specs.Places.{firstBit, endBit, discBit, zoneOf, zoneFrom, discBits, idFrom};
-ghost use Rattle.geometry.specs.Answers.{refusal, recordOf, startOf};
+ghost use Rattle.geometry.specs.Answers.{refusal, ReadsRecord, StartsAt};
 ghost use Rattle.geometry.specs.Laws.{GeometryLaws};
 
 // The fields of a disc record that are judged, by document 01's names.
@@ -68,7 +68,7 @@ const LONGEST_ID: usize = 15;
 // The geometry that a map's record gives. Refused: 1 where the map is under 64 bytes, 2 where the record is outside its
 // ranges.
 pub fn read_record(map: &[u8]) -> RecordRead
-    ensures { λ r. ⌜ r ≡ recordOf (now (map .entry)) ⌝ }
+    ensures { λ r. ⌜ ReadsRecord (now (map .entry)) r ⌝ }
 {
     if map.len() < 64 {
         return RecordRead::Refused(refuse(1));
@@ -94,7 +94,7 @@ pub fn refuse(number: u32) -> Refusal
 impl Geometry {
     // The zone where the search for an object's first fragment starts. Refused with 8: an id outside `low` to P*nzones - 1.
     pub fn start_zone(self, low: u32, id: u32) -> Start
-        ensures { λ r. ⌜ r ≡ startOf self low id ⌝ }
+        ensures { λ r. ⌜ StartsAt self low id r ⌝ }
     {
         let n = id as usize;
         if self.ids == 0 {

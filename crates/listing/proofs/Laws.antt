@@ -15,7 +15,9 @@ use Rattle.walk.specs.HeldBy.{heldFrom}
 use Rattle.listing.specs.Laws.{At, Covers, ListingLaws}
 use Rattle.listing.proofs.FreeHeld.{free-spans}
 use Rattle.listing.proofs.ObjectOrder.{in-object-order}
+use Rattle.listing.proofs.ByTable.{list-by-table, free-by-table}
 use Rattle.listing.proofs.Cover.{covers}
+use Rattle.listing.proofs.OwnAnswers.{list-shows, free-shows, answers-cover, owner-in-range, free-answer-ascends, list-answer-in-order}
 use Rattle.listing.proofs.InTurn.{spans-ascend, pieces-ascend}
 
 module _ (m : List ℕ) (ess : List (List Entry)) (e : mapRead m ≡ answered ess) where
@@ -42,6 +44,14 @@ module _ (m : List ℕ) (ess : List (List Entry)) (e : mapRead m ≡ answered es
 
 pub listing-laws : ListingLaws
 listing-laws = record {
+  list-by-table = list-by-table;
+  free-by-table = free-by-table;
+  list-shows = list-shows;
+  free-shows = free-shows;
+  answers-cover = answers-cover;
+  owner-in-range = owner-in-range;
+  free-answer-ascends = free-answer-ascends;
+  list-answer-in-order = list-answer-in-order;
   cover = cover;
   in-object-order = object-order;
   free-by-zone = free-by-zone;

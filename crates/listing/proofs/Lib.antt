@@ -1,3 +1,4 @@
+pub mod ByTable
 pub mod Stored
 pub mod LinesStored
 pub mod HeldZones
@@ -9,4 +10,5 @@ pub mod Answers
 pub mod Hits
 pub mod Cover
 pub mod InTurn
+pub mod OwnAnswers
 pub mod Laws

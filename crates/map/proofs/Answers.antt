@@ -18,8 +18,9 @@ use Rattle.geometry.specs.Answers.{refusal, recordOf}
 use Rattle.geometry.proofs.RecordAnswers.{accepted-says, refused-says}
 use Rattle.model.specs.Chain.{Entry}
 use Rattle.model.specs.Answer.{Answer, refused, answered}
-use Rattle.model.specs.Check.{zonesRead, differing, crossSum, afterChecks, blocksRead, blocksOf}
-use Rattle.map.specs.Checked.{checkAnswer, checked, firstDiffering}
+use Rattle.model.specs.Check.{mapRead, zonesRead, differing, crossSum, afterChecks, blocksRead, blocksOf}
+use Rattle.map.specs.Checked.{checkAnswer, checked, checkNumbers, checkTold, Checks, firstDiffering}
+use Rattle.map.specs.declared.Checked.{Checked}
 use Rattle.map.specs.declared.Checked.the-variants.{Accepted, Refused}
 use Rattle.map.specs.declared.FirstDiffering.the-variants as first
 
@@ -27,6 +28,14 @@ use Rattle.map.specs.declared.FirstDiffering.the-variants as first
 pub read-refused : (g : Geometry) (q : Answer (List (List Entry))) (r : Refusal) → checkAnswer g q ≡ Refused r → q ≡ refused (r .number) (r .zone)
 read-refused g (refused n z) r e = let k : refusal n z ≡ r = cc in ap (λ (x : Refusal). refused (x .number) (x .zone)) k
 read-refused g (answered ess) r e = let x : _≡_ {A = ℕ} 0 1 = cc in absurd (omega arith)
+
+-- the answer's numbers are the table's
+pub checks : (m : List ℕ) {r : Checked} → r ≡ checked m → Checks m r
+checks m e = record { answer = e; numbers = ap checkNumbers e ∙ told (mapRead m) }
+  where
+    told : (q : Answer (List (List Entry))) → checkNumbers (checkAnswer (geometryOf m) q) ≡ checkTold q
+    told (refused n z) = refl
+    told (answered ess) = refl
 
 -- the record and the length
 module _ (m : List ℕ) where

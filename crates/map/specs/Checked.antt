@@ -1,4 +1,5 @@
 -- What the check of a map answers, and the paper's numbers of each answer. Assumes nothing.
+use mathlib.Core.Path.{_≡_}
 use mathlib.Core.List.{List}
 use mathlib.Core.Option.{Option, none, some}
 use Prim.Native.Nat.{ℕ}
@@ -24,6 +25,16 @@ checked m = checkAnswer (geometryOf m) (mapRead m)
 abbrev pub checkNumbers : Checked → ℕ × ℕ
 checkNumbers (Accepted g) = (0, 0)
 checkNumbers (Refused r) = (r .number, r .zone)
+
+-- as the table gives them for what the map is read as
+abbrev pub checkTold : Answer (List (List Entry)) → ℕ × ℕ
+checkTold (refused n z) = (n, z)
+checkTold (answered ess) = (0, 0)
+
+-- the answer to a map, and its numbers
+pub record Checks (m : List ℕ) (r : Checked) : Type 0 where
+  pub answer : r ≡ checked m
+  pub numbers : checkNumbers r ≡ checkTold (mapRead m)
 
 abbrev pub firstDiffering : Option ℕ → FirstDiffering
 firstDiffering none = first.None

@@ -12,7 +12,7 @@ ghost use Rattle.checks.specs.Words.{zoneCheck};
 ghost use Rattle.checks.specs.Cross.{crossOf};
 ghost use Rattle.geometry.specs.Accepted.{AcceptedGeometry};
 ghost use Rattle.model.specs.Check.{zonesRead, differing, crossSum, blocksRead, blocksOf};
-ghost use Rattle.map.specs.Checked.{firstDiffering, checkAnswer, checked};
+ghost use Rattle.map.specs.Checked.{firstDiffering, checkAnswer, Checks};
 
 // An accepted map's geometry, or a refusal.
 pub enum Checked {
@@ -22,7 +22,7 @@ pub enum Checked {
 
 // Checks any bytes as a map.
 pub fn check(map: &[u8]) -> Checked
-    ensures { λ r. ⌜ r ≡ checked (now (map .entry)) ⌝ }
+    ensures { λ r. ⌜ Checks (now (map .entry)) r ⌝ }
 {
     match geometry::read_record(map) {
         RecordRead::Refused(r) => Checked::Refused(r),

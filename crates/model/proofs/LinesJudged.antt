@@ -5,9 +5,11 @@ use mathlib.Core.Bool.{Bool, true, false}
 use mathlib.Core.List.{List, [], _∷_}
 use mathlib.Core.Logic.{inl, inr}
 use Prim.Native.Nat.{ℕ}
+use native.Mathlib.Omega.{arith}
 use Rattle.model.specs.Answer.{Answer, refused, answered, unless, andThen}
 use Rattle.model.specs.Chain.{Entry}
 use Rattle.model.specs.Check.{mapRead}
+use Rattle.model.specs.Rules.{MapRules}
 use Rattle.model.specs.Table.{Judged}
 use Rattle.model.specs.Refusals.{Refusing, line, ByLines, ByTable, map-refused, by-lines, Exactly}
 use Rattle.model.proofs.MapJudged.{answer-is-judged, judged-is-answer, accepted-keeps-rules, rules-accepted}
@@ -51,3 +53,31 @@ module _ (m : List ℕ) {A : Type 0} (ls : List Refusing) (a : A) (one : EachOne
 
   pub by-table : Exactly (ByTable m ls a) (andThen (mapRead m) k)
   by-table = record { told = told (mapRead m) refl (answer-is-judged m); only = only }
+
+-- a call that answers: the map was read, no line is given, and the answer is the value
+abbrev pub NoneGiven : List Refusing → Type 0
+NoneGiven [] = Unit {0}
+NoneGiven (l ∷ ls) = ((z : ℕ) → l .given z → ⊥) × NoneGiven ls
+
+not-answered : {A : Type 0} {n z : ℕ} {a : A} → refused n z ≡ answered a → ⊥
+not-answered e = let x : _≡_ {A = ℕ} 0 1 = cc in omega arith
+
+same-answer : {A : Type 0} {a b : A} → answered a ≡ answered b → a ≡ b
+same-answer e = cc
+
+lines-answered : {A : Type 0} (ls : List Refusing) (a b : A) (r : Answer A) → r ≡ answered b → ByLines ls a r → (b ≡ a) × NoneGiven ls
+lines-answered [] a b r e h = (same-answer (sym e ∙ h), tt)
+lines-answered (l ∷ ls) a b r e (inl p) = absurd (not-answered (sym (p .2) ∙ e))
+lines-answered (l ∷ ls) a b r e (inr p) = let k = lines-answered ls a b r e (p .1) in (k .0, (p .0, k .1))
+
+pub record Value (m : List ℕ) {A : Type 0} (ls : List Refusing) (a b : A) : Type 0 where
+  pub rules : MapRules m
+  pub value : b ≡ a
+  pub none-given : NoneGiven ls
+
+pub table-answered : {m : List ℕ} {A : Type 0} {ls : List Refusing} {a b : A} {r : Answer A} → Exactly (ByTable m ls a) r → r ≡ answered b → Value m ls a b
+table-answered {m} {A} {ls} {a} {b} {r} x e = go r (x .told) e
+  where
+    go : (r : Answer A) → ByTable m ls a r → r ≡ answered b → Value m ls a b
+    go _ (map-refused n z j) e = absurd (not-answered e)
+    go _ (by-lines r w h) e = let k = lines-answered ls a b r e h in record { rules = w; value = k .0; none-given = k .1 }

@@ -4,10 +4,14 @@
 use mathlib.Core.Path.{_≡_}
 use mathlib.Core.List.{List, [], _∷_}
 use mathlib.Core.Logic.{_⊎_}
-use Prim.Native.Nat.{ℕ}
+use Prim.Native.Nat.{ℕ, _*_, _<_, _≤_}
+use lib.ListN.{length}
+use Rattle.geometry.specs.Record.{geometryOf}
 use Rattle.model.specs.Answer.{Answer, refused, answered}
 use Rattle.model.specs.Rules.{MapRules}
 use Rattle.model.specs.Table.{Judged}
+use Rattle.model.specs.Chain.{Pair}
+use Rattle.model.specs.Shown.{listedOn}
 
 -- a line of the table: its number, and that it is given, with this zone told
 pub record Refusing : Type 1 where
@@ -17,6 +21,19 @@ pub record Refusing : Type 1 where
 -- a line that tells zone 0
 abbrev pub line : ℕ → Type 0 → Refusing
 line n Given = record { number = n; given = λ z. (z ≡ 0) × Given }
+
+-- What lines of several calls say.
+-- 8: "id argument outside 1 (list ..), 2 (address) or 3 (sweep, edits) to P*nzones-1"
+abbrev pub Outside : ℕ → List ℕ → ℕ → Type 0
+Outside low m id = (low ≤ id) × (id < (geometryOf m) .ids * (geometryOf m) .zones) → ⊥
+
+-- 10: "id not on the map (list, address, sweep, release)"; an object "is there if it has any" pieces
+abbrev pub NotThere : List ℕ → ℕ → Type 0
+NotThere m id = listedOn m id ≡ []
+
+-- 17: "too few entries for the pairs", two for each
+abbrev pub TooFew : ℕ → List Pair → Type 0
+TooFew room qs = room < 2 * length qs
 
 -- the first line that is given is the answer, and where none is, the value
 abbrev pub ByLines : {A : Type 0} → List Refusing → A → Answer A → Type 0

@@ -5,9 +5,15 @@ pub mod CrossKey
 pub mod SamePieces
 pub mod BitsKept
 pub mod EditsOf
+pub mod FreeBits
 pub mod StepLaws
 pub mod EveryRun
 pub mod ClaimsJudged
 pub mod MapRefused
-pub mod EditsRefused
-pub mod EditsAccepted
+pub mod MapsEdited
+pub mod NeverFourteen
+pub mod Touches
+pub mod RulesJudged
+pub mod RoomForList
+pub mod OneClaim
+pub mod TableKept

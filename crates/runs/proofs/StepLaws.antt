@@ -8,8 +8,8 @@ use lib.ListN.{length}
 use Rattle.geometry.specs.declared.Geometry.{Geometry}
 use Rattle.geometry.specs.Record.{geometryOf}
 use Rattle.geometry.specs.Accepted.{AcceptedGeometry}
-use Rattle.model.specs.Chain.{Pair, numbersOf}
-use Rattle.model.specs.Pieces.{Piece, objectPairs}
+use Rattle.model.specs.Chain.{Pair, Entry, numbersOf}
+use Rattle.model.specs.Pieces.{Piece, piecesOfZones, objectPairs}
 use Rattle.edits.specs.Edits.{Disc, without, Edit, takes, gives, edit, editId}
 use Rattle.model.specs.Answer.{Answer, refused, answered}
 use Rattle.edits.specs.Judge.{Call, release, place, claim, isEmpty, editable, judge}
@@ -21,7 +21,7 @@ use Rattle.edits.proofs.ReadsAfter.{ListedAfter, listed-after}
 use Rattle.edits.proofs.Returned.{place-back, release-listed, release-back}
 use Rattle.edits.specs.Steps.{discOf, outcome, bytesAfter, step, steps}
 use Rattle.edits.specs.Editable.{Editable, NamedMoved, ReadsAfter}
-use Rattle.model.specs.Shown.{zonesOf, listedOn}
+use Rattle.model.specs.Shown.{zonesIn, zonesOf, listedOn}
 use Rattle.runs.specs.Demand3.{Accepted}
 use Rattle.edits.proofs.PiecesKept.{AcceptedPieces}
 use Rattle.edits.proofs.StepWritten.{outcome-judged}
@@ -29,6 +29,7 @@ use Rattle.edits.proofs.MapAccepted.{map-geometry, map-disc}
 use Rattle.edits.proofs.RunsOnBytes.{ReadsAs, reads-listed, reads-editable, undone-bytes, step-accepted, bytes-kept}
 use Rattle.edits.proofs.ZonesAfter.{zone-untouched}
 use Rattle.runs.proofs.BitsKept.{outside-kept}
+use Rattle.runs.proofs.FreeBits.{free-after}
 use Rattle.runs.proofs.EditsOf.{judged-done}
 use Rattle.edits.proofs.PairsGiven.{none-listed, given-facts, given-placed}
 
@@ -76,13 +77,17 @@ module _ (m : List ℕ) (ed : Editable m) where
   reads-after c e a =
       let h = verdict c e a in
       let r = after-reads c e a in
-      let w = listed-after (geometryOf m) s e (allowed (geometryOf m) (s .pieces) c e ok (pieces-ok .fit) h .0) in
+      let fits = allowed (geometryOf m) (s .pieces) c e ok (pieces-ok .fit) h .0 in
+      let w = listed-after (geometryOf m) s e fits in
       let l = reads-listed (geometryOf m) (edit g e s) (step m c) r in
+      let again = reads-editable (geometryOf m) (edit g e s) (step m c) r (bytes-kept m (zonesOf m) (ed .bytes) (ed .accepted) (ed .apart) (c ∷ [])) in
       record {
-        again = reads-editable (geometryOf m) (edit g e s) (step m c) r (bytes-kept m (zonesOf m) (ed .bytes) (ed .accepted) (ed .apart) (c ∷ []));
+        again = again;
         same-disc = r .4;
         moved = named e w l;
         others = λ id n. l id ∙ rest e w id n;
+        free-bits = free-after m (step m c) ed again (r .4) e fits
+            (ap (λ (x : List (List Entry)). piecesOfZones (geometryOf (step m c)) 0 x) (ap zonesIn (r .1)) ∙ ap (λ (x : Disc). x .pieces) (r .3));
         untouched = λ z k t. zone-untouched m (zonesOf m) (ed .bytes) (ed .accepted) (ed .apart) c e h z k t;
         outside = outside-kept m (zonesOf m) (ed .bytes) (ed .accepted) (ed .apart) (c ∷ []);
       }

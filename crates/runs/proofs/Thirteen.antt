@@ -1,14 +1,13 @@
--- Refusal 13 in the paper's words: the pieces after a place lie apart exactly when every listed bit is free and no hole of 1
--- to m - 1 bits is left. Pieces of different zones share no bit, so the zones are looked at one by one.
+-- Refusal 13 on the pieces: those after a place lie apart exactly when no piece has a listed bit and no hole of 1 to m - 1 bits is
+-- left. Pieces of different zones share no bit, so the zones are looked at one by one.
 use mathlib.Core.Path.{_≡_, refl, sym, ap, _∙_, subst}
 use mathlib.Core.Bool.{Bool, true, _&&_}
 use mathlib.Core.List.{List, [], _∷_, map}
 use mathlib.Core.Logic.{inl, inr}
-use Prim.Native.Nat.{ℕ, _+_, _%_, _<_, _≤_}
+use Prim.Native.Nat.{ℕ, _+_, _<_, _≤_}
 use native.Mathlib.Nat.{div-mul-le-self}
 use native.Mathlib.Omega.{arith}
 use lib.Dec.{eqb, ltb, leb}
-use lib.ListN.{length}
 use borrow.Author.Tests.{eqb-true, eq-eqb, ltb-true, leb-true}
 use Rattle.bits.proofs.Tests.{by-test, both}
 use Rattle.geometry.specs.declared.Geometry.{Geometry}
@@ -19,16 +18,24 @@ use Rattle.model.specs.Pieces.{Piece, late}
 use Rattle.model.proofs.ChainDrawn.{Lies}
 use Rattle.edits.specs.Order.{rank}
 use Rattle.edits.specs.Edits.{put, own, give, inZone}
-use Rattle.edits.specs.Holes.{allApart}
-use Rattle.edits.specs.Judge.{pairsFrom, pairFits, pairsFit, listFits}
+use Rattle.edits.specs.Holes.{holes, allApart}
+use Rattle.edits.specs.Judge.{pairFits, pairsFit}
 use Rattle.edits.proofs.Kept.{All, all-keep, all-put}
-use Rattle.edits.specs.Room.{In, ShareNone, ListedFree, NoLeftover, RoomFor}
+use Rattle.edits.specs.Room.{In, ShareNone}
 use Rattle.edits.proofs.Entries.{all-in, in-keep, in-kept, in-map, map-in}
 use Rattle.edits.proofs.ByPlace.{keep-put-by-place}
 use Rattle.edits.proofs.Gaps.{isLong, all-apart-at}
 use Rattle.edits.proofs.HolesLeft.{apart-lies, apart-holes, lies-apart, apart-all}
 use Rattle.edits.proofs.Invariant.{FitPieces, some-bits, on-disc, in-zone, PairTested, pair-tested, list-long}
 use Rattle.runs.proofs.Sharing.{lies-from, put-shares-none, Separate, separate-keep, lies-put}
+
+-- every listed bit is free: no piece has it
+abbrev pub ListedFree : List Pair → List Piece → Type 0
+ListedFree qs l = (q : Pair) → In q qs → (p : Piece) → In p l → ShareNone q (p .at)
+
+-- no leftover of 1 to m-1 free bits, where l are the pieces after the place
+abbrev pub NoLeftover : Geometry → List Piece → Type 0
+NoLeftover g l = (z : ℕ) → z < g .zones → (h : Pair) → In h (holes (zoneFrom g z) (zoneEnd g z) (inZone g z l)) → g .shortest ≤ h .len
 
 -- a pair that ends in its zone has all its bits there
 pub bit-zone : (g : Geometry) (q : Pair) (d : ℕ) → q .start + q .len ≤ zoneEnd g (zoneOf g (q .start)) → Within q d → zoneOf g d ≡ zoneOf g (q .start)
@@ -109,7 +116,7 @@ module _ (g : Geometry) (id : ℕ) (qs : List Pair) (l : List Piece) (ok : Accep
       (in-keep (λ x. eqb (zoneOf g (x .at .start)) z) p l j (eq-eqb (zoneOf g (p .at .start)) z e))
       d a b
 
-  apart-if-free : ListedFree qs l → (z : ℕ) → z < g .zones → Lies (zoneFrom g z) (zoneEnd g z) (inZone g z (give id qs l))
+  pub apart-if-free : ListedFree qs l → (z : ℕ) → z < g .zones → Lies (zoneFrom g z) (zoneEnd g z) (inZone g z (give id qs l))
   apart-if-free f z h =
       rw (after-zone z)
       (lies-put (zoneFrom g z) (zoneEnd g z) (inZone g z (map (own id) qs)) (inZone g z l) (zone-lies g l ok fit z h)
@@ -138,8 +145,3 @@ module _ (g : Geometry) (id : ℕ) (qs : List Pair) (l : List Piece) (ok : Accep
     λ t. (free-if-apart t, λ z h. apart-holes (g .shortest) (zoneFrom g z) (zoneEnd g z) (inZone g z (give id qs l)) (all-apart-at g 0 (g .zones) (give id qs l) t z (omega arith) (omega arith))),
     λ f. apart-all g 0 (g .zones) (give id qs l) (λ z lo hi. lies-apart (g .shortest) (zoneFrom g z) (zoneEnd g z) (inZone g z (give id qs l)) (apart-if-free (f .0) z (omega arith)) (f .1 z (omega arith))),
   )
-
-pub thirteen : (g : Geometry) (id : ℕ) (list : List ℕ) (l : List Piece) → AcceptedGeometry g → FitPieces g l → listFits g id list ≡ true
-    → (allApart g 0 (g .zones) (give id (pairsFrom list) l) ≡ true → RoomFor g id list l) × (RoomFor g id list l → allApart g 0 (g .zones) (give id (pairsFrom list) l) ≡ true)
-thirteen g id list l ok fit h =
-    pairs-thirteen g id (pairsFrom list) l ok fit ((both (ltb 0 (length list) && eqb (length list % 2) 0) (pairsFit g id 0 (pairsFrom list)) h) .1)

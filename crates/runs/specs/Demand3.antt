@@ -5,7 +5,9 @@ use mathlib.Core.Bool.{true}
 use mathlib.Core.List.{List, [], _∷_, _++_, map}
 use Prim.Native.Nat.{ℕ, _*_, _%_, _<_, _≤_}
 use lib.ListN.{length, getD}
+use Rattle.bits.specs.Bits.{Bytes}
 use Rattle.checks.specs.Cross.{crossOf}
+use Rattle.checks.specs.Maps.{mapA}
 use Rattle.geometry.specs.declared.Geometry.{Geometry}
 use Rattle.geometry.specs.Record.{geometryOf}
 use Rattle.model.specs.Chain.{Pair, numbersOf}
@@ -62,12 +64,16 @@ pub record RunLaws (m : List ℕ) (cs : List Call) : Type 0 where
   pub same-bytes : SameLists m (steps m cs) → steps m cs ≡ m
 
 pub record Demand3 : Type 0 where
+  -- the maps that edits work on: every one on which a call is accepted, and map A
+  pub accepted-editable : (m : List ℕ) → Bytes m → (c : Call) (e : Edit) → Accepted m c e → Editable m
+  pub map-A : Editable mapA
   -- a step, accepted or refused
   pub reads-after : (m : List ℕ) → Editable m → (c : Call) (e : Edit) → Accepted m c e → ReadsAfter m e (step m c)
   pub refused-keeps : (m : List ℕ) (c : Call) (n z : ℕ) → outcome m c ≡ refused n z → step m c ≡ m
   -- "Release an ordinary object, with room for its list, and at once place the returned list under its number: both are accepted and
   -- every byte is as before, check bytes too." The release of an object that is there is accepted, and then the place is.
-  pub release-accepted : (m : List ℕ) → Editable m → (id room : ℕ) → editable (geometryOf m) id ≡ true → (listedOn m id ≡ [] → ⊥) → 2 * length (listedOn m id) ≤ room
+  pub release-accepted : (m : List ℕ) → Editable m → (id room : ℕ) → editable (geometryOf m) id ≡ true → (listedOn m id ≡ [] → ⊥)
+      → 2 * length (listedOn m id) ≤ room
       → Accepted m (release id room) (takes id (listedOn m id))
   pub release-place : (m : List ℕ) → Editable m → (id room : ℕ) (qs : List Pair) → Accepted m (release id room) (takes id qs)
       → Accepted (step m (release id room)) (place id (numbersOf qs)) (gives id qs) × (steps m (release id room ∷ place id (numbersOf qs) ∷ []) ≡ m)

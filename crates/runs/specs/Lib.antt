@@ -1,4 +1,8 @@
 pub mod ListRules
+pub mod ListRoom
 pub mod Demand3
 pub mod Claims
+pub mod Refusals
+pub mod ByRules
+pub mod EditTable
 pub mod EditRules

@@ -1,6 +1,7 @@
 // Runs of calls: what each call that edits does to the bytes of a map, and demand 3. Definitions and laws, no code; the contracts of
 // release, place and claim say that the code does the steps defined here, so the theorem below is about the code.
 ghost use Rattle.runs.specs.Demand3.{Demand3};
+ghost use Rattle.runs.specs.EditTable.{EditTable};
 ghost use Rattle.runs.specs.EditRules.{EditRules};
 
 // Demand 3 whole: steps, undo, and every run.
@@ -8,7 +9,12 @@ pub fn demand_3()
     ensures { λ _. ⌜ Demand3 ⌝ }
 {}
 
-// What accepted edits do, when a place is accepted, and refusals 12 to 15, in the papers' words.
+// Which refusal release, place and claim give exactly when, in the table's order, and what they answer where none is given.
+pub fn edit_table()
+    ensures { λ _. ⌜ EditTable ⌝ }
+{}
+
+// What the table does not say: 12's test is its rules, and 14 is never told.
 pub fn edit_rules()
     ensures { λ _. ⌜ EditRules ⌝ }
 {}

@@ -14,6 +14,8 @@ use Rattle.listing.proofs.Laws.{accepted, same-zones}
 use Rattle.address.proofs.Laws.{sought}
 use Rattle.sweep.specs.Sweep.{covers, objectSpans}
 use Rattle.sweep.specs.Laws.{SweepLaws}
+use Rattle.sweep.proofs.ByTable.{sweep-by-table, free-sweep-by-table}
+use Rattle.sweep.proofs.OwnAnswers.{sweep-reaches, reached-swept, free-sweep-spans, free-sweep-misses}
 use Rattle.sweep.proofs.SweptOn.{swept-length}
 use Rattle.sweep.proofs.SweptLaws.{swept-byte, cut-bytes, cut-count}
 use Rattle.sweep.proofs.SweptReached.{object-reached, object-covered, object-not-free}
@@ -33,6 +35,12 @@ module _ (m : List ℕ) (ess : List (List Entry)) (e : mapRead m ≡ answered es
 
 pub sweep-laws : SweepLaws
 sweep-laws = record {
+  sweep-by-table = sweep-by-table;
+  free-sweep-by-table = free-sweep-by-table;
+  sweep-reaches = sweep-reaches;
+  reached-swept = reached-swept;
+  free-sweep-spans = free-sweep-spans;
+  free-sweep-misses = free-sweep-misses;
   swept-is-reached = swept-is-reached;
   reached-is-swept = reached-is-swept;
   free-not-reached = free-not-reached;

@@ -1,3 +1,4 @@
+pub mod ByTable
 pub mod Bounds
 pub mod SweptOn
 pub mod OnePair
@@ -6,4 +7,5 @@ pub mod ApartCounts
 pub mod SweepAnswers
 pub mod SweptLaws
 pub mod SweptReached
+pub mod OwnAnswers
 pub mod Laws

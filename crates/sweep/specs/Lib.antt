@@ -1,2 +1,3 @@
 pub mod Sweep
+pub mod Refusals
 pub mod Laws

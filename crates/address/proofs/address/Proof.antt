@@ -9,7 +9,7 @@ returns : tie.Need-returns
 returns c =
     let k = c .before .before .before in
     let a = k .before .before .args in
-    check-refuses (a .map .now) (a .n) (a .position) (k .check .ensures) (c .before .r .given .1)
+    check-refuses (a .map .now) (a .n) (a .position) (k .check .ensures .answer) (c .before .r .given .1)
 
 pub address-spec : {M : Type 1} → statement M
 address-spec =
@@ -18,6 +18,6 @@ address-spec =
     (λ c κs. search needs)
     (λ c. search needs)
     (λ c. search needs)
-    (λ c κs. accepted-by (c .before .before .before .check .ensures) (c .before .g .given .1))
+    (λ c κs. accepted-by (c .before .before .before .check .ensures .answer) (c .before .g .given .1))
     returns
     (λ c. search needs))

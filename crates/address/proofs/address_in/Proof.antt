@@ -18,7 +18,7 @@ object : (c : tie.After-count-held) → let d = c .before .before in
 object c =
     let d = c .before .before in
     let z = d .before .before in
-    record { accepted = z .before .before .before .pre; some = omega arith; starts = sym (z .start-zone .ensures) ∙ d .start .given .1; count = c .count-held .ensures }
+    record { accepted = z .before .before .before .pre; some = omega arith; starts = sym (z .start-zone .ensures .answer) ∙ d .start .given .1; count = c .count-held .ensures }
 
 returns-2 : tie.Need-returns-2
 returns-2 c =
@@ -41,7 +41,7 @@ returns-4 : tie.Need-returns-4
 returns-4 c =
     let z = c .before .before .before in
     let s = z .before .before .before in
-    start-refused (s .pre) (s .args .n) (s .args .position) (z .before .if1 .left) (sym (z .start-zone .ensures) ∙ c .before .r .given .1)
+    start-refused (s .pre) (s .args .n) (s .args .position) (z .before .if1 .left) (sym (z .start-zone .ensures .answer) ∙ c .before .r .given .1)
 
 returns-5 : tie.Need-returns-5
 returns-5 c =

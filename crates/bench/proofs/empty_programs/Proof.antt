@@ -37,38 +37,64 @@ done-refused e = let z : _≡_ {A = ℕ} 0 1 = cc in omega arith
 piece-refused : {id start len : ℕ} {r : Refusal} → taken.Piece id start len ≡ taken.Refused r → ⊥
 piece-refused e = let z : _≡_ {A = ℕ} 0 1 = cc in omega arith
 
+-- four bytes of a stretch
+abbrev four : List ℕ
+four = 1 ∷ 1 ∷ 1 ∷ 1 ∷ []
+
+-- two entries of a list
+abbrev lent : List ℕ
+lent = 9 ∷ 9 ∷ []
+
 returns : tie.Need-returns
 unfolding zoneCheck wordsOf total
 returns c =
     record {
-      check-refuses = λ h. accepted-refused (h mapA .1);
-      check-one-answer = λ h. accepted-refused (h .1 mapA ∙ sym (h .1 []));
-      list-refuses = λ h. pairs-refused (h 2 2 mapA .1);
-      list-one-answer = λ h. pairs-refused (h 5 2 .1 mapB ∙ sym (h 5 2 .1 mapA));
-      list-writes-nothing = λ h. let e : _≡_ {A = ℕ} 12 9 = ap (λ (l : List ℕ). getD l 1 0) (h mapA 2 (9 ∷ 9 ∷ [])) in omega arith;
-      free-refuses = λ h. pairs-refused (h 2 mapA .1);
-      free-one-answer = λ h. pairs-refused (h 2 .1 mapA ∙ sym (h 2 .1 []));
-      free-writes-nothing = λ h. let e : _≡_ {A = ℕ} 12 9 = ap (λ (l : List ℕ). getD l 0 0) (h mapA (9 ∷ 9 ∷ [])) in omega arith;
-      address-refuses = λ h. at-refused (h 0x000503 0 mapB .1);
-      address-one-answer = λ h. at-refused (h 0x000503 0 .1 mapB ∙ sym (h 0x000503 0 .1 mapA));
-      sweep-refuses = λ h. count-refused (h 5 12286 4 mapB .1);
-      sweep-one-answer = λ h. count-refused (h 5 12286 4 .1 mapB ∙ sym (h 5 12286 4 .1 mapA));
-      sweep-writes-nothing = λ h. let e : _≡_ {A = ℕ} 7 1 = ap (λ (l : List ℕ). getD l 2 0) (h mapB 5 12286 7 (1 ∷ 1 ∷ 1 ∷ 1 ∷ [])) in omega arith;
-      sweep-writes-all = λ h. let e : _≡_ {A = ℕ} 1 7 = ap (λ (l : List ℕ). getD l 1 0) (h mapB 5 12286 7 (1 ∷ 1 ∷ 1 ∷ 1 ∷ [])) in omega arith;
-      free-sweep-refuses = λ h. count-refused (h 32766 4 mapB .1);
-      free-sweep-one-answer = λ h. count-refused (h 32766 4 .1 mapB ∙ sym (h 32766 4 .1 []));
-      free-sweep-writes-nothing = λ h. let e : _≡_ {A = ℕ} 7 1 = ap (λ (l : List ℕ). getD l 2 0) (h mapB 32766 7 (1 ∷ 1 ∷ 1 ∷ 1 ∷ [])) in omega arith;
-      free-sweep-writes-all = λ h. let e : _≡_ {A = ℕ} 1 7 = ap (λ (l : List ℕ). getD l 1 0) (h mapB 32766 7 (1 ∷ 1 ∷ 1 ∷ 1 ∷ [])) in omega arith;
-      release-refuses = λ h. pairs-refused (h 5 2 mapB .1);
-      release-one-answer = λ h. pairs-refused (h 5 2 .1 mapB ∙ sym (h 5 2 .1 mapA));
-      release-edits-nothing = λ h. let e : _≡_ {A = ℕ} 199 40 = ap (λ (l : List ℕ). getD l 0 0) (h mapB 5 2) in omega arith;
-      release-writes-nothing = λ h. let e : _≡_ {A = ℕ} 12 9 = ap (λ (l : List ℕ). getD l 0 0) (h mapB 5 (9 ∷ 9 ∷ [])) in omega arith;
-      place-refuses = λ h. done-refused (h 5 (12 ∷ 20 ∷ []) mapA .1);
-      place-one-answer = λ h. done-refused (h 5 (12 ∷ 20 ∷ []) .1 mapA ∙ sym (h 5 (12 ∷ 20 ∷ []) .1 mapB));
-      place-edits-nothing = λ h. let e : _≡_ {A = ℕ} 40 199 = ap (λ (l : List ℕ). getD l 0 0) (h mapA 5 (12 ∷ 20 ∷ [])) in omega arith;
-      claim-refuses = λ h. piece-refused (h 20480 mapA .1);
-      claim-one-answer = λ h. piece-refused (h 20480 .1 mapA ∙ sym (h 20480 .1 []));
-      claim-edits-nothing = λ h. let e : _≡_ {A = ℕ} 8 199 = ap (λ (l : List ℕ). getD l 0 0) (h mapA 20480) in omega arith;
+      check = record {
+        refuses = λ h. accepted-refused (sym (h mapA tt .2 .answer));
+        one-answer = λ h. let k = h tt .1 in accepted-refused (sym (k mapA .1 .answer) ∙ k [] .1 .answer);
+      };
+      list = record {
+        refuses = λ h. pairs-refused (sym (h mapA (2, lent) .2 .answer));
+        one-answer = λ h. let k = h (5, lent) .1 in pairs-refused (sym (k mapB .1 .answer) ∙ k mapA .1 .answer);
+      };
+      list-writes-nothing = λ h. let e : _≡_ {A = ℕ} 9 12 = ap (λ (l : List ℕ). getD l 1 0) (h mapA (2, lent) .1 .list) in omega arith;
+      free = record {
+        refuses = λ h. pairs-refused (sym (h mapA lent .2 .answer));
+        one-answer = λ h. let k = h lent .1 in pairs-refused (sym (k mapA .1 .answer) ∙ k [] .1 .answer);
+      };
+      free-writes-nothing = λ h. let e : _≡_ {A = ℕ} 9 12 = ap (λ (l : List ℕ). getD l 0 0) (h mapA lent .1 .list) in omega arith;
+      address = record {
+        refuses = λ h. at-refused (sym (h mapB (0x000503, 0) .2));
+        one-answer = λ h. let k = h (0x000503, 0) .1 in at-refused (sym (k mapB .1) ∙ k mapA .1);
+      };
+      sweep = record {
+        refuses = λ h. count-refused (sym (h mapB (5, 12286, 7, four) .2 .answer));
+        one-answer = λ h. let k = h (5, 12286, 7, four) .1 in count-refused (sym (k mapB .1 .answer) ∙ k mapA .1 .answer);
+      };
+      sweep-writes-nothing = λ h. let e : _≡_ {A = ℕ} 1 7 = ap (λ (l : List ℕ). getD l 2 0) (h mapB (5, 12286, 7, four) .1 .image) in omega arith;
+      sweep-writes-all = λ h. let e : _≡_ {A = ℕ} 7 1 = ap (λ (l : List ℕ). getD l 1 0) (h mapB (5, 12286, 7, four) .1 .image) in omega arith;
+      free-sweep = record {
+        refuses = λ h. count-refused (sym (h mapB (32766, 7, four) .2 .answer));
+        one-answer = λ h. let k = h (32766, 7, four) .1 in count-refused (sym (k mapB .1 .answer) ∙ k [] .1 .answer);
+      };
+      free-sweep-writes-nothing = λ h. let e : _≡_ {A = ℕ} 1 7 = ap (λ (l : List ℕ). getD l 2 0) (h mapB (32766, 7, four) .1 .image) in omega arith;
+      free-sweep-writes-all = λ h. let e : _≡_ {A = ℕ} 7 1 = ap (λ (l : List ℕ). getD l 1 0) (h mapB (32766, 7, four) .1 .image) in omega arith;
+      release = record {
+        refuses = λ h. pairs-refused (sym (h mapB (5, lent) .2 .lists .answer));
+        one-answer = λ h. let k = h (5, lent) .1 in pairs-refused (sym (k mapB .1 .lists .answer) ∙ k mapA .1 .lists .answer);
+      };
+      release-edits-nothing = λ h. let e : _≡_ {A = ℕ} 40 199 = ap (λ (l : List ℕ). getD l 0 0) (h mapB (5, lent) .1 .bytes) in omega arith;
+      release-writes-nothing = λ h. let e : _≡_ {A = ℕ} 9 12 = ap (λ (l : List ℕ). getD l 0 0) (h mapB (5, lent) .1 .lists .list) in omega arith;
+      place = record {
+        refuses = λ h. done-refused (sym (h mapA (5, 12 ∷ 20 ∷ []) .2 .answer));
+        one-answer = λ h. let k = h (5, 12 ∷ 20 ∷ []) .1 in done-refused (sym (k mapA .1 .answer) ∙ k mapB .1 .answer);
+      };
+      place-edits-nothing = λ h. let e : _≡_ {A = ℕ} 199 40 = ap (λ (l : List ℕ). getD l 0 0) (h mapA (5, 12 ∷ 20 ∷ []) .1 .bytes) in omega arith;
+      claim = record {
+        refuses = λ h. piece-refused (sym (h mapA 20480 .2 .answer));
+        one-answer = λ h. let k = h 20480 .1 in piece-refused (sym (k mapA .1 .answer) ∙ k [] .1 .answer);
+      };
+      claim-edits-nothing = λ h. let e : _≡_ {A = ℕ} 199 8 = ap (λ (l : List ℕ). getD l 0 0) (h mapA 20480 .1 .bytes) in omega arith;
     }
 
 pub empty-programs-spec : {M : Type 1} → statement M

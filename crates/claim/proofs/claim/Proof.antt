@@ -10,14 +10,14 @@ claim-checked-requires : tie.Need-claim-checked-requires
 claim-checked-requires c κs =
     let d = c .before .before in
     let h = d .before .before in
-    accepts (h .before .before .before .args .map .now) (d .g .given .0 .0) (sym (h .check .ensures) ∙ d .g .given .1)
+    accepts (h .before .before .before .args .map .now) (d .g .given .0 .0) (sym (h .check .ensures .answer) ∙ d .g .given .1)
 
 returns : tie.Need-returns
 returns c =
     let d = c .before in
     let h = d .before .before in
     let s = h .before .before .before in
-    check-refuses (s .args .map .now) (s .args .size) (d .r .given .0 .0) (sym (h .check .ensures) ∙ d .r .given .1)
+    check-refuses (s .args .map .now) (s .args .size) (d .r .given .0 .0) (sym (h .check .ensures .answer) ∙ d .r .given .1)
 
 pub claim-spec : {M : Type 1} → statement M
 claim-spec =

@@ -10,21 +10,22 @@ use Rattle.geometry.specs.Accepted.{SmallNumbers}
 use Rattle.geometry.specs.Answers.{byFit, recordOf}
 use Rattle.geometry.proofs.Rules.{test-gives-fields}
 use Rattle.geometry.proofs.Numbers.{fields-give-small}
-use Rattle.geometry.proofs.RecordAnswers.{read-short, read-outside, read-geometry}
+use Rattle.geometry.proofs.RecordAnswers.{read-short, read-outside, read-geometry, reads-record}
 use Rattle.geometry.proofs.read_record.Statement.{statement}
 use Rattle.geometry.proofs.read_record.Tie as tie
 
 returns : tie.Need-returns
-returns c = ap read.Refused (c .refuse .ensures) ∙ read-short (c .before .before .before .args .map .now) (c .before .if1 .taken)
+returns c = let m = c .before .before .before .args .map .now in reads-record m (ap read.Refused (c .refuse .ensures) ∙ read-short m (c .before .if1 .taken))
 
 returns-2 : tie.Need-returns-2
 returns-2 c =
     let f = c .before .before in
     let r = f .before in
     let long = r .before .before in
-    ap read.Refused (c .refuse2 .ensures)
-    ∙ read-outside (long .before .before .args .map .now) (long .if1 .left) (r .record-in .ensures .0)
-    (sym (f .fields-fit .ensures) ∙ not-true (f .fields-fit .result) (c .before .if2 .taken))
+    let m = long .before .before .args .map .now in
+    reads-record m
+    (ap read.Refused (c .refuse2 .ensures)
+    ∙ read-outside m (long .if1 .left) (r .record-in .ensures .0) (sym (f .fields-fit .ensures) ∙ not-true (f .fields-fit .result) (c .before .if2 .taken)))
 
 fields : (c : tie.Else2) → fieldsFit (c .before .before .record-in .result) ≡ true
 fields c = let f = c .before .fields-fit in sym (f .ensures) ∙ not-false (f .result) (c .if2 .left)
@@ -47,10 +48,10 @@ judged c =
 returns-3 : tie.Need-returns-3
 returns-3 c =
     let p = c .before .before in
-    ap read.Refused (c .refuse3 .ensures) ∙ (rw (not-true (p .geometry-fits .result) (c .before .if3 .taken)) at (judged p))
+    reads-record _ (ap read.Refused (c .refuse3 .ensures) ∙ (rw (not-true (p .geometry-fits .result) (c .before .if3 .taken)) at (judged p)))
 
 returns-4 : tie.Need-returns-4
-returns-4 c = rw (not-false (c .before .geometry-fits .result) (c .if3 .left)) at (judged (c .before))
+returns-4 c = reads-record _ (rw (not-false (c .before .geometry-fits .result) (c .if3 .left)) at (judged (c .before)))
 
 pub read-record-spec : {M : Type 1} → statement M
 read-record-spec =

@@ -7,7 +7,7 @@ use Rattle.listing.proofs.free.Statement.{statement}
 use Rattle.listing.proofs.free.Tie as tie
 
 accepted : (c : tie.After-g) → AcceptedMap (c .before .before .before .before .before .args .map .now) (c .g .given .0 .0)
-accepted c = accepted-by (c .before .before .check .ensures) (c .g .given .1)
+accepted c = accepted-by (c .before .before .check .ensures .answer) (c .g .given .1)
 
 returns : tie.Need-returns
 returns c =
@@ -25,7 +25,7 @@ returns-2 : tie.Need-returns-2
 returns-2 c =
     let d = c .before in
     let a = d .before .before .before .before .before .args in
-    check-refuses (a .map .now) (a .pairs .now) _ (d .before .before .check .ensures) (d .r .given .1)
+    check-refuses (a .map .now) (a .pairs .now) _ (d .before .before .check .ensures .answer) (d .r .given .1)
 
 returns-3 : tie.Need-returns-3
 returns-3 c =

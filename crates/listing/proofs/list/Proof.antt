@@ -8,7 +8,7 @@ returns : tie.Need-returns
 returns c =
     let d = c .before in
     let a = d .before .before .before .before .before .args in
-    check-refuses (a .map .now) (a .pairs .now) _ (d .before .before .check .ensures) (d .r .given .1)
+    check-refuses (a .map .now) (a .pairs .now) _ (d .before .before .check .ensures .answer) (d .r .given .1)
 
 pub list-spec : {M : Type 1} → statement M
 list-spec =
@@ -17,7 +17,7 @@ list-spec =
     (λ c κs. search needs)
     (λ c. search needs)
     (λ c. search needs)
-    (λ c κs. accepted-by (c .before .before .before .before .check .ensures) (c .before .before .g .given .1))
+    (λ c κs. accepted-by (c .before .before .before .before .check .ensures .answer) (c .before .before .g .given .1))
     returns
     (λ c. search needs)
     (λ c. search needs))

@@ -11,7 +11,7 @@ object : (c : tie.After-count-held) → let d = c .before .before in
 object c =
     let d = c .before .before in
     let z = d .before .before in
-    record { accepted = z .before .before .before .pre; some = omega arith; starts = sym (z .start-zone .ensures) ∙ d .start .given .1; count = c .count-held .ensures }
+    record { accepted = z .before .before .before .pre; some = omega arith; starts = sym (z .start-zone .ensures .answer) ∙ d .start .given .1; count = c .count-held .ensures }
 
 returns : tie.Need-returns
 returns c =
@@ -43,7 +43,7 @@ returns-3 : tie.Need-returns-3
 returns-3 c =
     let d = c .before in
     let s = d .before .before .before .before .before in
-    start-refused (s .pre) (s .args .id) (s .args .pairs .now) (sym (d .before .before .start-zone .ensures) ∙ d .r .given .1)
+    start-refused (s .pre) (s .args .id) (s .args .pairs .now) (sym (d .before .before .start-zone .ensures .answer) ∙ d .r .given .1)
 
 returns-4 : tie.Need-returns-4
 returns-4 c =

@@ -4,7 +4,7 @@ use Prim.Native.Nat.{_≤_}
 use native.Mathlib.Nat.{mul-le-mul}
 use native.Mathlib.Omega.{arith}
 use Rattle.geometry.proofs.RecordAnswers.{accepted-geometry}
-use Rattle.map.proofs.Answers.{record-refused, length-refused, blocks-answer}
+use Rattle.map.proofs.Answers.{record-refused, length-refused, blocks-answer, checks}
 use borrow.Author.Needs.{needs}
 use Rattle.map.proofs.check.Statement.{statement}
 use Rattle.map.proofs.check.Tie as tie
@@ -14,7 +14,7 @@ mul-if1 c =
     let d = c in
     let m = d .before .before .before .before .before .before .args .map .now in
     let g = d .before .before .g .given .0 .0 in
-    let e = sym (d .before .before .before .before .read-record .ensures) ∙ d .before .before .g .given .1 in
+    let e = sym (d .before .before .before .before .read-record .ensures .answer) ∙ d .before .before .g .given .1 in
     let k = accepted-geometry m g e in
     let l : g .zones ≤ 65536 = omega (arith, k .zones-high) in
     omega (arith, mul-le-mul l (k .sector-high))
@@ -24,27 +24,29 @@ returns c =
     let d = c .before in
     let m = d .before .before .before .before .before .before .args .map .now in
     let g = d .before .before .g .given .0 .0 in
-    let e = sym (d .before .before .before .before .read-record .ensures) ∙ d .before .before .g .given .1 in
-    length-refused m g e (c .if1 .taken)
+    let e = sym (d .before .before .before .before .read-record .ensures .answer) ∙ d .before .before .g .given .1 in
+    checks m (length-refused m g e (search needs))
 
 check-blocks-requires : tie.Need-check-blocks-requires
 check-blocks-requires c κs =
     let d = c .before in
     let m = d .before .before .before .before .before .before .args .map .now in
     let g = d .before .before .g .given .0 .0 in
-    let e = sym (d .before .before .before .before .read-record .ensures) ∙ d .before .before .g .given .1 in
-    (accepted-geometry m g e, c .if1 .left)
+    let e = sym (d .before .before .before .before .read-record .ensures .answer) ∙ d .before .before .g .given .1 in
+    (accepted-geometry m g e, search needs)
 
 returns-2 : tie.Need-returns-2
-returns-2 c = record-refused (c .before .before .before .before .before .args .map .now) (c .before .r .given .0 .0) (sym (c .before .before .before .read-record .ensures) ∙ c .before .r .given .1)
+returns-2 c =
+    let m = c .before .before .before .before .before .args .map .now in
+    checks m (record-refused m (c .before .r .given .0 .0) (sym (c .before .before .before .read-record .ensures .answer) ∙ c .before .r .given .1))
 
 returns-3 : tie.Need-returns-3
 returns-3 c =
     let d = c .before .before in
     let m = d .before .before .before .before .before .before .args .map .now in
     let g = d .before .before .g .given .0 .0 in
-    let e = sym (d .before .before .before .before .read-record .ensures) ∙ d .before .before .g .given .1 in
-    c .check-blocks .ensures ∙ blocks-answer m g e (c .before .if1 .left)
+    let e = sym (d .before .before .before .before .read-record .ensures .answer) ∙ d .before .before .g .given .1 in
+    checks m (c .check-blocks .ensures ∙ blocks-answer m g e (c .before .if1 .left))
 
 pub check-spec : {M : Type 1} → statement M
 check-spec =

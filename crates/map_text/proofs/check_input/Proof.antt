@@ -10,7 +10,7 @@ returns : tie.Need-returns
 returns c = ap Refused (c .refuse .ensures) ∙ too-long (c .before .before .before .args .input .now) (c .before .if1 .taken)
 
 returns-2 : tie.Need-returns-2
-returns-2 c = not-too-long (c .before .before .before .args .input .now) (c .before .if1 .left) (c .check .ensures)
+returns-2 c = not-too-long (c .before .before .before .args .input .now) (c .before .if1 .left) (c .check .ensures .answer)
 
 pub check-input-spec : {M : Type 1} → statement M
 check-input-spec = tie.close (tie.spec (λ c κs. search needs) returns (λ c κs. search needs) returns-2)

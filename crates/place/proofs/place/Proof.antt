@@ -11,14 +11,14 @@ place-checked-requires c κs =
     let d = c .before .before in
     let k = d .before .before in
     let s = k .before .before .before .before in
-    accepts (s .args .map .now) (d .g .given .0 .0) (sym (k .check .ensures) ∙ d .g .given .1)
+    accepts (s .args .map .now) (d .g .given .0 .0) (sym (k .check .ensures .answer) ∙ d .g .given .1)
 
 returns : tie.Need-returns
 returns c =
     let d = c .before in
     let k = d .before .before in
     let s = k .before .before .before .before in
-    check-refuses (s .args .map .now) (s .args .id) (s .args .list .now) (d .r .given .0 .0) (sym (k .check .ensures) ∙ d .r .given .1)
+    check-refuses (s .args .map .now) (s .args .id) (s .args .list .now) (d .r .given .0 .0) (sym (k .check .ensures .answer) ∙ d .r .given .1)
 
 pub place-spec : {M : Type 1} → statement M
 place-spec =

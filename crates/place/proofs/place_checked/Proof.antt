@@ -13,7 +13,7 @@ use Rattle.place.proofs.place_checked.Tie as tie
 
 -- the id has a start zone
 started : (v : tie.After-start) → let a = v .before .before .before .before .before .args in startOf (a .g) 3 (a .id) ≡ start.Zone (v .start .given .0 .0)
-started v = sym (v .before .before .start-zone .ensures) ∙ v .start .given .1
+started v = sym (v .before .before .start-zone .ensures .answer) ∙ v .start .given .1
 
 -- no free fragments touch
 editable : (d : tie.After-enum-told) → let a = d .before .before .before .before .before .before .before .before .before .before .args in EditableMap (a .map .now) (a .g)
@@ -54,7 +54,7 @@ returns-3 c =
     let d = c .before in
     let z = d .before .before in
     let s = z .before .before .before in
-    start-refuses (s .pre) (s .args .id) (s .args .list .now) (d .r .given .0 .0) (sym (z .start-zone .ensures) ∙ d .r .given .1)
+    start-refuses (s .pre) (s .args .id) (s .args .list .now) (d .r .given .0 .0) (sym (z .start-zone .ensures .answer) ∙ d .r .given .1)
 
 returns-4 : tie.Need-returns-4
 returns-4 c =

@@ -1,4 +1,5 @@
--- The laws of `StepLaws` and `EveryRun`.
+-- The laws of `MapsEdited`, `StepLaws` and `EveryRun`.
+use Rattle.runs.proofs.MapsEdited.{accepted-editable, map-A}
 use Rattle.runs.proofs.StepLaws.{refused-keeps, reads-after, release-accepted, release-place, given-release, claim-places}
 use Rattle.runs.proofs.EveryRun.{run-claims, same-lists-same-bytes}
 use Rattle.runs.proofs.demand_3.Statement.{statement}
@@ -7,6 +8,8 @@ use Rattle.runs.proofs.demand_3.Tie as tie
 returns : tie.Need-returns
 returns c =
     record {
+      accepted-editable = accepted-editable;
+      map-A = map-A;
       reads-after = reads-after;
       refused-keeps = refused-keeps;
       release-accepted = release-accepted;

@@ -11,7 +11,7 @@ use Rattle.shoalswift.proofs.shoalswift_geometry.Lts as lts
 use Rattle.map.proofs.check.Reads as check-reads
 
 accepted : (d : lts.After-g (check-reads.Asked, check-reads.Learnt) reads.Pre reads.Post) → AcceptedGeometry (d .g .given .0 .0)
-accepted d = accepts (d .before .before .before .before .args .map .now) (d .g .given .0 .0) (sym (d .before .before .check .ensures) ∙ d .g .given .1) .readable .numbers
+accepted d = accepts (d .before .before .before .before .args .map .now) (d .g .given .0 .0) (sym (d .before .before .check .ensures .answer) ∙ d .g .given .1) .readable .numbers
 
 cast-sector : tie.Need-cast-sector
 cast-sector c = let h = accepted (c .before .before) in search needs
@@ -28,10 +28,10 @@ cast-ids c = let h = accepted (c .before .before .before .before .before) in sea
 returns : tie.Need-returns
 returns c =
     let d = c .before .before .before .before .before in
-    ap geometryNumbers (sym (d .g .given .1) ∙ d .before .before .check .ensures)
+    ap geometryNumbers (sym (d .g .given .1) ∙ d .before .before .check .ensures .answer)
 
 returns-2 : tie.Need-returns-2
-returns-2 c = ap geometryNumbers (sym (c .before .r .given .1) ∙ c .before .before .before .check .ensures)
+returns-2 c = ap geometryNumbers (sym (c .before .r .given .1) ∙ c .before .before .before .check .ensures .answer)
 
 pub shoalswift-geometry-spec : {M : Type 1} → statement M
 shoalswift-geometry-spec =

@@ -7,13 +7,13 @@ use Rattle.sweep.proofs.sweep_free.Statement.{statement}
 use Rattle.sweep.proofs.sweep_free.Tie as tie
 
 accepted : (c : tie.After-g) → AcceptedMap (c .before .before .before .before .before .args .map .now) (c .g .given .0 .0)
-accepted c = accepted-by (c .before .before .check .ensures) (c .g .given .1)
+accepted c = accepted-by (c .before .before .check .ensures .answer) (c .g .given .1)
 
 returns : tie.Need-returns
 returns c =
     let k = c .before .before .before in
     let a = k .before .before .before .args in
-    check-refuses (a .map .now) (a .image .now) (a .first) (a .fill) _ (k .check .ensures) (c .before .r .given .1)
+    check-refuses (a .map .now) (a .image .now) (a .first) (a .fill) _ (k .check .ensures .answer) (c .before .r .given .1)
 
 returns-2 : tie.Need-returns-2
 returns-2 c =

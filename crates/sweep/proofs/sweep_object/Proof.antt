@@ -9,7 +9,7 @@ returns : tie.Need-returns
 returns c =
     let k = c .before .before .before in
     let a = k .before .before .before .args in
-    check-refuses (a .map .now) (a .image .now) (a .first) (a .fill) _ (k .check .ensures) (c .before .r .given .1)
+    check-refuses (a .map .now) (a .image .now) (a .first) (a .fill) _ (k .check .ensures .answer) (c .before .r .given .1)
 
 pub sweep-object-spec : {M : Type 1} → statement M
 sweep-object-spec =
@@ -18,7 +18,7 @@ sweep-object-spec =
     (λ c κs. search needs)
     (λ c. search needs)
     (λ c. search needs)
-    (λ c κs. accepted-by (c .before .before .before .before .check .ensures) (c .before .before .g .given .1))
+    (λ c κs. accepted-by (c .before .before .before .before .check .ensures .answer) (c .before .before .g .given .1))
     returns
     (λ c. search needs)
     (λ c. search needs))

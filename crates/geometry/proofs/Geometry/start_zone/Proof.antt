@@ -6,7 +6,7 @@ use borrow.Author.Needs.{needs}
 use borrow.Author.Tests.{not-true, not-false, eq-eqb, ne-eqb}
 use Rattle.geometry.specs.declared.Start.the-variants as start
 use Rattle.geometry.specs.Places.{idFrom}
-use Rattle.geometry.proofs.Starts.{no-ids, by-division}
+use Rattle.geometry.proofs.Starts.{no-ids, by-division, starts-at}
 use Rattle.geometry.proofs.Geometry.start_zone.Statement.{statement}
 use Rattle.geometry.proofs.Geometry.start_zone.Tie as tie
 
@@ -14,7 +14,7 @@ returns : tie.Need-returns
 returns c =
     let i = c .before in
     let a = i .before .before .args in
-    rw (sym (no-ids (a .self) (a .id) (a .low) (i .if1 .taken))) (ap start.Refused (c .refuse .ensures))
+    starts-at (a .self) (a .low) (a .id) (rw (sym (no-ids (a .self) (a .id) (a .low) (i .if1 .taken))) (ap start.Refused (c .refuse .ensures)))
 
 -- the test is the definition's
 test : (c : tie.After-both) → let a = c .before .before .before .before .before .args in c .both .result ≡ idFrom (a .low) (a .self) (a .id)
@@ -26,16 +26,23 @@ test c =
 returns-2 : tie.Need-returns-2
 returns-2 c =
     let b = c .before .before in
-    rw (sym (test b) ∙ not-true (b .both .result) (c .before .if2 .taken)) (ap start.Refused (c .refuse2 .ensures))
+    let a = b .before .before .before .before .before .args in
+    starts-at (a .self) (a .low) (a .id) (rw (sym (test b) ∙ not-true (b .both .result) (c .before .if2 .taken)) (ap start.Refused (c .refuse2 .ensures)))
 
 named : (c : tie.Else2) → let a = c .before .before .before .before .before .before .args in idFrom (a .low) (a .self) (a .id) ≡ true
 named c = sym (test (c .before)) ∙ not-false (c .before .both .result) (c .if2 .left)
 
 returns-3 : tie.Need-returns-3
-returns-3 c = let e = c .before .before in rw (named e, eq-eqb (e .before .before .before .before .before .before .args .id) 2 (c .before .if3 .taken))
+returns-3 c =
+    let e = c .before .before in
+    let a = e .before .before .before .before .before .before .args in
+    starts-at (a .self) (a .low) (a .id) (rw (named e, eq-eqb (a .id) 2 (c .before .if3 .taken)))
 
 returns-4 : tie.Need-returns-4
-returns-4 c = let e = c .before .before in rw (named e, ne-eqb (e .before .before .before .before .before .before .args .id) 2 (c .before .if3 .left))
+returns-4 c =
+    let e = c .before .before in
+    let a = e .before .before .before .before .before .before .args in
+    starts-at (a .self) (a .low) (a .id) (rw (named e, ne-eqb (a .id) 2 (c .before .if3 .left)))
 
 pub start-zone-spec : {M : Type 1} → statement M
 start-zone-spec =

@@ -1,0 +1,229 @@
+-- Release, place and claim by their lines: each test of the definitions is the line that it stands for, in the table's order.
+use mathlib.Core.Path.{_≡_, refl, sym, ap, _∙_, subst, subst⁻¹}
+use mathlib.Core.Bool.{Bool, true, false, not, _&&_, false≢true}
+use mathlib.Core.List.{List, [], _∷_}
+use mathlib.Core.Option.{Option, none, some}
+use mathlib.Core.Logic.{_↔_, inl, inr}
+use Prim.Native.Nat.{ℕ, _-_, _*_, _%_, _<_, _≤_}
+use native.Mathlib.Omega.{arith}
+use lib.Dec.{eqb, ltb, leb}
+use lib.ListN.{length}
+use borrow.Author.Tests.{ltb-true, ltb-false, lt-ltb, leb-true, leb-false, le-leb}
+use Rattle.bits.specs.Bits.{Bytes}
+use Rattle.bits.proofs.Tests.{by-test, both, and-true}
+use Rattle.geometry.specs.declared.Geometry.{Geometry}
+use Rattle.geometry.specs.Record.{geometryOf}
+use Rattle.model.specs.Answer.{Answer, answered, unless}
+use Rattle.model.specs.Chain.{Pair, Entry, touching}
+use Rattle.model.specs.Check.{mapRead}
+use Rattle.model.specs.Pieces.{Piece, piecesOf}
+use Rattle.model.specs.Refusals.{Refusing, ByLines, ByTable, Exactly}
+use Rattle.model.specs.Shown.{zonesIn, zonesOf, piecesOn, listedOn}
+use Rattle.model.specs.Rules.{MapRules}
+use Rattle.model.proofs.MapJudged.{rules-accepted}
+use Rattle.model.proofs.LinesJudged.{OneZone, line-one, unless-line, by-table}
+use Rattle.edits.specs.Edits.{Edit, give, takes, gives}
+use Rattle.edits.specs.Holes.{holesFrom, allApart}
+use Rattle.edits.specs.Judge.{release, place, claim, isEmpty, editable, pairsFrom, pairsFit, listFits, need, firstHole, taken, lowest, chooseIn, chosen, byChoice, judgeRest}
+use Rattle.edits.specs.Room.{In}
+use Rattle.edits.specs.Steps.{byTouching, byRead, outcome}
+use Rattle.edits.specs.Editable.{Editable}
+use Rattle.edits.proofs.Chosen.{empty, lowest-absent, lowest-lt, lowest-least}
+use Rattle.edits.proofs.Fourteen.{lowest-used}
+use Rattle.edits.proofs.MapAccepted.{map-geometry}
+use Rattle.edits.proofs.PairsGiven.{none-listed}
+use Rattle.edits.proofs.ReadsAfter.{same-pieces}
+use Rattle.runs.specs.ListRules.{ListRules}
+use Rattle.runs.specs.ListRoom.{NoRoom}
+use Rattle.runs.specs.Refusals.{nine, ten, eleven, twelve, twelveClaim, thirteen, fourteen, fifteen, seventeen, releaseLines, placeLines, claimLines, Claimed}
+use Rattle.runs.specs.ByRules.{ByRules, ByTableRules}
+use Rattle.runs.proofs.Touches.{map-apart, map-touches}
+use Rattle.runs.proofs.Twelve.{fits-gives-rules, rules-give-fits}
+use Rattle.runs.proofs.RoomForList as room
+use Rattle.runs.proofs.ClaimsJudged.{none-long, spans-holes, claim-rules}
+use Rattle.runs.proofs.RulesJudged as rules
+use Rattle.runs.proofs.OneClaim.{one-claim}
+use Rattle.edits.proofs.ClaimFits.{first-in}
+
+-- 9 tells one zone
+pub nine-one : (m : List ℕ) → OneZone (nine m)
+nine-one m y z a b =
+    by-test (ltb y z)
+    (λ t. absurd (b .none-lower y (ltb-true y z t) (a .touch)))
+    (λ t. by-test (ltb z y)
+    (λ u. absurd (a .none-lower z (ltb-true z y u) (b .touch)))
+    (λ u. omega (arith, ltb-false y z t, ltb-false z y u)))
+
+-- 8
+id-outside : (g : Geometry) (id : ℕ) → editable g id ≡ false → (3 ≤ id) × (id < g .ids * g .zones) → ⊥
+id-outside g id e h = false≢true (sym e ∙ and-true (leb 3 id) (ltb id (g .ids * g .zones)) (le-leb 3 id (h .0)) (lt-ltb id (g .ids * g .zones) (h .1)))
+
+id-inside : (g : Geometry) (id : ℕ) → editable g id ≡ true → (3 ≤ id) × (id < g .ids * g .zones)
+id-inside g id e = let b = both (leb 3 id) (ltb id (g .ids * g .zones)) e in (leb-true 3 id (b .0), ltb-true id (g .ids * g .zones) (b .1))
+
+not-true : (b : Bool) → not b ≡ true → b ≡ true → ⊥
+not-true true e f = false≢true e
+not-true false e f = false≢true f
+
+not-false : (b : Bool) → not b ≡ false → b ≡ true
+not-false true e = refl
+not-false false e = absurd (false≢true (sym e))
+
+module _ (m : List ℕ) where
+  abbrev g : Geometry
+  g = geometryOf m
+
+  abbrev l : List Piece
+  l = piecesOn (geometryOf m) m
+
+  -- an object without pieces lists none, and the other way round
+  absent : (id : ℕ) → isEmpty (piecesOf id (piecesOn (geometryOf m) m)) ≡ true → listedOn m id ≡ []
+  absent id e = same-pieces g id l [] (empty (piecesOf id l) e)
+
+  listed : (id : ℕ) → listedOn m id ≡ [] → isEmpty (piecesOf id (piecesOn (geometryOf m) m)) ≡ true
+  listed id e = ap isEmpty (none-listed g id l e)
+
+  module _ (ess : List (List Entry)) (e : mapRead m ≡ answered ess) where
+    zones-read : zonesOf m ≡ ess
+    zones-read = ap zonesIn e
+
+    read-zones : mapRead m ≡ answered (zonesOf m)
+    read-zones = e ∙ ap answered (sym zones-read)
+
+  -- 9: the zone that is found is the one told
+  module _ (w : MapRules m) where
+    map-read : mapRead m ≡ answered (zonesOf m)
+    map-read = let q = rules-accepted m w in read-zones (q .0) (q .1)
+
+    pub touching-told : (z : ℕ) → touching 0 (zonesOf m) ≡ some z ↔ nine m .given z
+    touching-told z = (map-touches m (zonesOf m) map-read z, λ k. go k (touching 0 (zonesOf m)) refl)
+      where
+        go : nine m .given z → (o : Option ℕ) → touching 0 (zonesOf m) ≡ o → o ≡ some z
+        go k none t = absurd (map-apart m (zonesOf m) map-read t z (k .touch))
+        go k (some y) t = ap some (nine-one m y z (map-touches m (zonesOf m) map-read y t) k)
+
+    pub none-touching : touching 0 (zonesOf m) ≡ none ↔ ((z : ℕ) → nine m .given z → ⊥)
+    none-touching = (λ t z k. map-apart m (zonesOf m) map-read t z (k .touch), λ k. go k (touching 0 (zonesOf m)) refl)
+      where
+        go : ((z : ℕ) → nine m .given z → ⊥) → (o : Option ℕ) → touching 0 (zonesOf m) ≡ o → o ≡ none
+        go k none t = refl
+        go k (some y) t = absurd (k y (map-touches m (zonesOf m) map-read y t))
+
+  -- 9 and what comes after it
+  touch-line : mapRead m ≡ answered (zonesOf m) → (ls : List Refusing) (a : Edit) (v : Answer Edit) → (o : Option ℕ) → touching 0 (zonesOf m) ≡ o
+      → (o ≡ none → ByLines ls a v) → ByLines (nine m ∷ ls) a (byTouching o v)
+  touch-line r ls a v none t h = inr ((λ z k. map-apart m (zonesOf m) r t z (k .touch)), h refl)
+  touch-line r ls a v (some z) t h = inl (z, map-touches m (zonesOf m) r z t, refl)
+
+  touch-rules : mapRead m ≡ answered (zonesOf m) → (ls : List Refusing) (R : Edit → Type 0) (v : Answer Edit) → (o : Option ℕ) → touching 0 (zonesOf m) ≡ o
+      → (o ≡ none → ByRules ls R v) → ByRules (nine m ∷ ls) R (byTouching o v)
+  touch-rules r ls R v none t h = inr ((λ z k. map-apart m (zonesOf m) r t z (k .touch)), h refl)
+  touch-rules r ls R v (some z) t h = inl (z, map-touches m (zonesOf m) r z t, refl)
+
+  -- release
+  module _ (id room : ℕ) where
+    abbrev taken-off : Edit
+    taken-off = takes id (listedOn m id)
+
+    released : ByLines (ten m id ∷ seventeen m id room ∷ []) (takes id (listedOn m id)) (judgeRest (geometryOf m) (piecesOn (geometryOf m) m) (release id room))
+    released =
+        let n = 2 * length (listedOn m id) in
+        let last = unless (leb n room) 17 (answered taken-off) in
+        unless-line (not (isEmpty (piecesOf id l))) 10 (listedOn m id ≡ []) (seventeen m id room ∷ []) taken-off last
+        (λ u. absent id (not-false (isEmpty (piecesOf id l)) u)) (λ u k. not-true (isEmpty (piecesOf id l)) u (listed id k))
+        (λ u. unless-line (leb n room) 17 (room < n) [] taken-off (answered taken-off) (leb-false n room) (λ v k. omega (arith, leb-true n room v)) (λ v. refl))
+
+    release-lines : mapRead m ≡ answered (zonesOf m) → ByLines (releaseLines m id room) (takes id (listedOn m id)) (byRead (geometryOf m) (release id room) (zonesOf m))
+    release-lines r =
+        let rest = ten m id ∷ seventeen m id room ∷ [] in
+        let v = judgeRest g l (release id room) in
+        unless-line (editable g id) 8 ((3 ≤ id) × (id < g .ids * g .zones) → ⊥) (nine m ∷ rest) taken-off (byTouching (touching 0 (zonesOf m)) v)
+        (id-outside g id) (λ t k. k (id-inside g id t))
+        (λ t. touch-line r rest taken-off v (touching 0 (zonesOf m)) refl (λ _. released))
+
+    pub release-by-table : Exactly (ByTable m (releaseLines m id room) (takes id (listedOn m id))) (outcome m (release id room))
+    release-by-table =
+        by-table m (releaseLines m id room) taken-off (line-one 8 _, (nine-one m, (line-one 10 _, (line-one 17 _, tt)))) (byRead g (release id room))
+        (λ ess e. subst (λ (x : List (List Entry)). ByLines (releaseLines m id room) taken-off (byRead g (release id room) x)) (zones-read ess e)
+        (release-lines (read-zones ess e)))
+
+  module _ (bytes : Bytes m) where
+    editable-map : mapRead m ≡ answered (zonesOf m) → touching 0 (zonesOf m) ≡ none → Editable m
+    editable-map r t = record { bytes = bytes; accepted = r; apart = t }
+
+    -- place
+    module _ (id : ℕ) (list : List ℕ) where
+      abbrev given : Edit
+      given = gives id (pairsFrom list)
+
+      placed : Editable m → ByLines (eleven m id ∷ twelve m id list ∷ thirteen m list ∷ []) (gives id (pairsFrom list)) (judgeRest (geometryOf m) (piecesOn (geometryOf m) m) (place id list))
+      placed ed =
+          let ok = map-geometry m (zonesOf m) (ed .bytes) (ed .accepted) in
+          let apart = allApart g 0 (g .zones) (give id (pairsFrom list) l) in
+          let last = unless apart 13 (answered given) in
+          unless-line (isEmpty (piecesOf id l)) 11 (listedOn m id ≡ [] → ⊥) (twelve m id list ∷ thirteen m list ∷ []) given (unless (listFits g id list) 12 last)
+          (λ t k. false≢true (sym t ∙ listed id k)) (λ t k. k (absent id t))
+          (λ t. unless-line (listFits g id list) 12 (ListRules g id list → ⊥) (thirteen m list ∷ []) given last
+          (λ u k. false≢true (sym u ∙ rules-give-fits g ok id list k)) (λ u k. k (fits-gives-rules g ok id list u))
+          (λ u. let k = both (ltb 0 (length list) && eqb (length list % 2) 0) (pairsFit g id 0 (pairsFrom list)) u .1 in
+          unless-line apart 13 (NoRoom m list) [] given (answered given) (room.no-room m ed id list k) (room.has-room m ed id list k)
+          (λ v. refl)))
+
+      place-lines : mapRead m ≡ answered (zonesOf m) → ByLines (placeLines m id list) (gives id (pairsFrom list)) (byRead (geometryOf m) (place id list) (zonesOf m))
+      place-lines r =
+          let rest = eleven m id ∷ twelve m id list ∷ thirteen m list ∷ [] in
+          let v = judgeRest g l (place id list) in
+          unless-line (editable g id) 8 ((3 ≤ id) × (id < g .ids * g .zones) → ⊥) (nine m ∷ rest) given (byTouching (touching 0 (zonesOf m)) v)
+          (id-outside g id) (λ t k. k (id-inside g id t))
+          (λ t. touch-line r rest given v (touching 0 (zonesOf m)) refl (λ n. placed (editable-map r n)))
+
+      pub place-by-table : Exactly (ByTable m (placeLines m id list) (gives id (pairsFrom list))) (outcome m (place id list))
+      place-by-table =
+          by-table m (placeLines m id list) given (line-one 8 _, (nine-one m, (line-one 11 _, (line-one 12 _, (line-one 13 _, tt))))) (byRead g (place id list))
+          (λ ess e. subst (λ (x : List (List Entry)). ByLines (placeLines m id list) given (byRead g (place id list) x)) (zones-read ess e)
+          (place-lines (read-zones ess e)))
+
+    -- claim
+    module _ (size : ℕ) where
+      claimed : Editable m → ByRules (fourteen m ∷ fifteen m size ∷ []) (Claimed m size) (byChoice (chosen (geometryOf m) (piecesOn (geometryOf m) m) size))
+      claimed ed = go (lowest l ids 3) refl (firstHole n hs) refl
+        where
+          ids : ℕ
+          ids = (geometryOf m) .ids * (geometryOf m) .zones - 3
+
+          n : ℕ
+          n = need (geometryOf m) size
+
+          hs : List Pair
+          hs = holesFrom (geometryOf m) 0 ((geometryOf m) .zones) (piecesOn (geometryOf m) m)
+
+          unused : (id : ℕ) → lowest l ids 3 ≡ some id → ((i : ℕ) → 3 ≤ i → i < g .ids * g .zones → listedOn m i ≡ [] → ⊥) → ⊥
+          unused id a k = k id (lowest-least l ids 3 id a) (omega (arith, lowest-lt l ids 3 id a)) (same-pieces g id l [] (lowest-absent l ids 3 id a))
+
+          go : (i : Option ℕ) → lowest l ids 3 ≡ i → (o : Option Pair) → firstHole n hs ≡ o
+              → ByRules (fourteen m ∷ fifteen m size ∷ []) (Claimed m size) (byChoice (chooseIn i o (g .shortest) n))
+          go none a o b = inl (0, (refl, λ i lo hi k. lowest-used l ids 3 a i lo (omega arith) (none-listed g i l k)), refl)
+          go (some id) a none b = inr ((λ z p. unused id a (p .1)), inl (0, (refl, λ h i. none-long n hs b h (subst (In h) (spans-holes m ed) i)), refl))
+          go (some id) a (some h) b =
+              let k = first-in n hs h b in
+              inr (
+                (λ z p. unused id a (p .1)),
+                inr (
+                  (λ z p. omega (arith, k .1, p .1 h (subst⁻¹ (In h) (spans-holes m ed) (k .0)))),
+                  (gives id (taken (g .shortest) n h ∷ []), (id, taken (g .shortest) n h, refl, claim-rules m ed size id h a b), refl),
+                ),
+              )
+
+      claim-lines : mapRead m ≡ answered (zonesOf m) → ByRules (claimLines m size) (Claimed m size) (byRead (geometryOf m) (claim size) (zonesOf m))
+      claim-lines r =
+          let rest = fourteen m ∷ fifteen m size ∷ [] in
+          let v = byChoice (chosen g l size) in
+          touch-rules r (twelveClaim m size ∷ rest) (Claimed m size) (unless (ltb 0 size) 12 v) (touching 0 (zonesOf m)) refl
+          (λ n. rules.unless-line (ltb 0 size) 12 (size ≡ 0) rest (Claimed m size) v
+          (λ t. omega (arith, ltb-false 0 size t)) (λ t k. omega (arith, ltb-true 0 size t)) (λ t. claimed (editable-map r n)))
+
+      pub claim-by-table : Exactly (ByTableRules m (claimLines m size) (Claimed m size)) (outcome m (claim size))
+      claim-by-table =
+          rules.by-table-rules m (claimLines m size) (Claimed m size) (nine-one m, (line-one 12 _, (line-one 14 _, (line-one 15 _, tt)))) (one-claim m size) (byRead g (claim size))
+          (λ ess e. subst (λ (x : List (List Entry)). ByRules (claimLines m size) (Claimed m size) (byRead g (claim size) x)) (zones-read ess e)
+          (claim-lines (read-zones ess e)))

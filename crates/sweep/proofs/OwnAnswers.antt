@@ -1,0 +1,74 @@
+-- The laws of the sweeps' own answers: an answer is the class that the map shows (`ByTable`), and an object's class covers the addresses
+-- of its bytes, which are those that `address` answers.
+use mathlib.Core.Path.{_≡_, refl, sym, ap, _∙_}
+use mathlib.Core.Bool.{true, false}
+use mathlib.Core.List.{List}
+use Prim.Native.Nat.{ℕ, _+_, _*_, _%_, _^_, _<_, _≤_}
+use native.Mathlib.Omega.{arith}
+use lib.Dec.{leb, ltb}
+use lib.Pow.{pow-mono}
+use borrow.Author.Tests.{leb-true, leb-false, ltb-true, ltb-false, eq-eqb}
+use Rattle.bits.proofs.Tests.{by-test}
+use Rattle.geometry.specs.declared.Geometry.{Geometry}
+use Rattle.geometry.specs.Record.{geometryOf}
+use Rattle.model.specs.Answer.{answered}
+use Rattle.model.specs.Chain.{Pair}
+use Rattle.model.specs.Rules.{MapRules}
+use Rattle.model.specs.Shown.{listedOn}
+use Rattle.model.proofs.LinesJudged.{table-answered}
+use Rattle.listing.specs.Listed.{freeFound}
+use Rattle.listing.proofs.OwnAnswers.{shown, free-shows}
+use Rattle.address.specs.Address.{idOf, startOffset, seek, addressFound}
+use Rattle.address.proofs.OwnAnswers.{found, answers}
+use Rattle.sweep.specs.Sweep.{Class, covers, objectSweep, freeSweep}
+use Rattle.sweep.proofs.ByTable.{sweep-by-table, free-sweep-by-table}
+use Rattle.sweep.proofs.SweptReached.{object-reached, object-covered, object-not-free}
+
+-- an id that is not outside is inside
+inside : (low id end : ℕ) → (((low ≤ id) × (id < end) → ⊥) → ⊥) → (low ≤ id) × (id < end)
+inside low id end n =
+    by-test (leb low id)
+    (λ t. by-test (ltb id end) (λ u. (leb-true low id t, ltb-true id end u)) (λ u. absurd (n (λ k. omega (arith, k .1, ltb-false id end u)))))
+    (λ t. absurd (n (λ k. omega (arith, k .0, leb-false low id t))))
+
+-- an object's number with low byte 0 is an internal number: its id has at most 15 bits
+number-low : (m : List ℕ) → MapRules m → (id : ℕ) → id < (geometryOf m) .ids * (geometryOf m) .zones → id * 256 < 16777216
+number-low m w id h =
+    let p : 2 ^ (geometryOf m) .idlen ≤ 2 ^ 15 = pow-mono {i = (geometryOf m) .idlen} {j = 15} (w .record-rules .fields .idlen-high) in
+    omega (arith, w .record-rules .together .enough-ids)
+
+-- and byte i of its file is byte i of the object
+file-byte : (m : List ℕ) (id i : ℕ)
+    → seek ((geometryOf m) .unit) (listedOn m (idOf (id * 256))) (startOffset (geometryOf m) (id * 256) + i) ≡ seek ((geometryOf m) .unit) (listedOn m id) i
+file-byte m id i =
+    let e : idOf (id * 256) ≡ id = omega arith in
+    let z : id * 256 % 256 ≡ 0 = omega arith in
+    let o : startOffset (geometryOf m) (id * 256) + i ≡ i = rw (eq-eqb (id * 256 % 256) 0 z) (omega arith) in
+    λ t. seek ((geometryOf m) .unit) (listedOn m (e t)) (o t)
+
+module _ (m : List ℕ) (id first n : ℕ) (c : Class) (e : objectSweep m id first n ≡ answered c) where
+  pub sweep-reaches : (a : ℕ) → covers (c .unit) (c .pairs) a ≡ true → (i : ℕ) × (addressFound m (id * 256) i ≡ answered a)
+  sweep-reaches a h =
+      let v = table-answered (sweep-by-table m id first n) e in
+      let k = inside 3 id ((geometryOf m) .ids * (geometryOf m) .zones) (λ o. v .none-given .0 0 (refl, o)) in
+      let r = object-reached (shown m (v .rules)) id a (sym (ap (λ (x : Class). covers (x .unit) (x .pairs) a) (v .value)) ∙ h) in
+      let d : idOf (id * 256) ≡ id = omega arith in
+      (r .0, answers m (id * 256) (r .0) a (v .rules) (number-low m (v .rules) id (k .1)) (omega (arith, k .0)) (omega (arith, k .1)) (file-byte m id (r .0) ∙ r .1))
+
+  pub reached-swept : (k i a : ℕ) → idOf k ≡ id → addressFound m k i ≡ answered a → covers (c .unit) (c .pairs) a ≡ true
+  reached-swept k i a o f =
+      let v = table-answered (sweep-by-table m id first n) e in
+      let g : Geometry = geometryOf m in
+      let s = found m k i a f in
+      ap (λ (x : Class). covers (x .unit) (x .pairs) a) (v .value)
+      ∙ object-covered (shown m (v .rules)) id (startOffset g k + i) a (sym (ap (λ (y : ℕ). seek (g .unit) (listedOn m y) (startOffset g k + i)) o) ∙ s .sought)
+
+module _ (m : List ℕ) (first n : ℕ) (c : Class) (e : freeSweep m first n ≡ answered c) where
+  pub free-sweep-misses : (k i a : ℕ) → addressFound m k i ≡ answered a → covers (c .unit) (c .pairs) a ≡ false
+  free-sweep-misses k i a f =
+      let v = table-answered (free-sweep-by-table m first n) e in
+      let s = found m k i a f in
+      ap (λ (x : Class). covers (x .unit) (x .pairs) a) (v .value) ∙ object-not-free (shown m (v .rules)) (idOf k) (startOffset (geometryOf m) k + i) a (s .sought)
+
+  pub free-sweep-spans : (room : ℕ) (qs : List Pair) → freeFound m room ≡ answered qs → c .pairs ≡ qs
+  free-sweep-spans room qs f = ap (λ (x : Class). x .pairs) (table-answered (free-sweep-by-table m first n) e .value) ∙ sym (free-shows m room qs f)
