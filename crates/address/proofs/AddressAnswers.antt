@@ -1,6 +1,6 @@
 -- The answers of an address, case by case: the check's refusal, 8, 10, 16, and where the byte lies. An object's pieces are those
 -- from its start zone on and then those before it, and all of them have less than 2^42 bytes.
-use mathlib.Core.Path.{_≡_, sym, ap, _∙_}
+use mathlib.Core.Path.{_≡_, refl, sym, ap, _∙_}
 use mathlib.Core.List.{List, _++_}
 use Prim.Native.Nat.{ℕ, _+_, _-_, _*_, _/_, _<_, _≤_}
 use native.Mathlib.Nat.{mul-le-mul, sub-zero}
@@ -14,7 +14,7 @@ use Rattle.geometry.specs.Places.{discBits}
 use Rattle.geometry.specs.Answers.{refusal, startOf}
 use Rattle.geometry.proofs.DiscBits.{disc-bits-small}
 use Rattle.model.specs.Chain.{Pair}
-use Rattle.model.specs.Answer.{Answer, refused}
+use Rattle.model.specs.Answer.{Answer, refused, answered}
 use Rattle.map.specs.Accepted.{AcceptedMap}
 use Rattle.map.specs.Checked.{checked}
 use Rattle.map.specs.declared.Checked.{Checked}
@@ -26,7 +26,7 @@ use Rattle.address.specs.declared.Seek.{Seek}
 use Rattle.address.specs.declared.Seek.the-variants as found
 use Rattle.address.specs.declared.Reached.{Reached}
 use Rattle.address.specs.declared.Reached.the-variants as reached
-use Rattle.address.specs.Address.{startOffset, seek, seekOf, within, addressRead, addressFound, addressAnswer}
+use Rattle.address.specs.Address.{startOffset, seek, seekOf, within, addressRead, addressFound, addressAnswer, addressNumbers, addressTold, Reaches}
 use Rattle.address.specs.Refusals.{totalLength}
 use Rattle.address.proofs.SeekOn.{found-at, found-past, goOn, seek-append, total-append, total-apart, seek-past}
 
@@ -108,3 +108,11 @@ module _ {m : List ℕ} {g : Geometry} (n position : ℕ) {s count : ℕ} (o : O
         → r ≡ addressAnswer (addressFound m n position)
     object-sought eo er =
         er ∙ ap (λ (x : ℕ). addressAnswer (within (seek (g .unit) pieces (x + position)))) eo ∙ ap addressAnswer (sym (address-read (o .accepted) n position ∙ object-there))
+
+numbers-told : (f : Answer ℕ) → addressNumbers (addressAnswer f) ≡ addressTold f
+numbers-told (refused n z) = refl
+numbers-told (answered a) = refl
+
+-- an answer tells its numbers
+pub reaches : (m : List ℕ) (n position : ℕ) {r : Reached} → r ≡ addressAnswer (addressFound m n position) → Reaches m n position r
+reaches m n position e = record { answer = e; numbers = ap addressNumbers e ∙ numbers-told (addressFound m n position) }

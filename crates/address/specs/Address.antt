@@ -1,4 +1,5 @@
 -- From a file's internal number and a position to a disc address (document 01, "Address", refusals 8, 10, 16). Assumes nothing.
+use mathlib.Core.Path.{_≡_}
 use mathlib.Core.Bool.{Bool, cond, _&&_}
 use mathlib.Core.List.{List, [], _∷_}
 use Prim.Native.Nat.{ℕ, _+_, _-_, _*_, _/_, _%_}
@@ -64,3 +65,13 @@ addressAnswer (refused n z) = reached.Refused (refusal n z)
 abbrev pub addressNumbers : Reached → ℕ × ℕ × ℕ
 addressNumbers (reached.At l) = (0, 0, l .address)
 addressNumbers (reached.Refused r) = (r .number, r .zone, 0)
+
+-- as the table gives them for what is found
+abbrev pub addressTold : Answer ℕ → ℕ × ℕ × ℕ
+addressTold (refused n z) = (n, z, 0)
+addressTold (answered a) = (0, 0, a)
+
+-- the answer with its numbers
+pub record Reaches (m : List ℕ) (n position : ℕ) (r : Reached) : Type 0 where
+  pub answer : r ≡ addressAnswer (addressFound m n position)
+  pub numbers : addressNumbers r ≡ addressTold (addressFound m n position)

@@ -10,7 +10,7 @@ ghost use Prim.Native.Nat.{_-_, _<_, _≤_};
 ghost use Rattle.geometry.specs.Accepted.{AcceptedGeometry};
 ghost use Rattle.map.specs.Accepted.{AcceptedMap};
 ghost use Rattle.walk.specs.HeldBy.{pairIf, heldFrom};
-ghost use Rattle.address.specs.Address.{startOffset, seek, seekOf, within, addressFound, addressAnswer};
+ghost use Rattle.address.specs.Address.{startOffset, seek, seekOf, within, addressFound, addressAnswer, Reaches};
 ghost use Rattle.address.specs.Laws.{AddressLaws};
 
 // Where a byte of an object lies on the disc.
@@ -26,7 +26,7 @@ pub enum Reached {
 
 // The disc address of byte `position` of the file with internal number n. Refused: 1 to 7 as `map::check`, 8, 10, 16.
 pub fn address(map: &[u8], n: u32, position: u64) -> Reached
-    ensures { λ r. ⌜ r ≡ addressAnswer (addressFound (now (map .entry)) n position) ⌝ }
+    ensures { λ r. ⌜ Reaches (now (map .entry)) n position r ⌝ }
 {
     match map::check(map) {
         Checked::Refused(r) => Reached::Refused(r),

@@ -12,7 +12,7 @@ use Rattle.map.specs.declared.Checked.the-variants as check
 use Rattle.listing.specs.Listed.{objectFound, freeFound, Lists}
 use Rattle.listing.specs.declared.Listed.{Listed}
 use Rattle.listing.specs.declared.Listed.the-variants as listed
-use Rattle.address.specs.Address.{addressFound, addressAnswer}
+use Rattle.address.specs.Address.{Reaches}
 use Rattle.address.specs.declared.Reached.{Reached}
 use Rattle.address.specs.declared.Reached.the-variants as reached
 use Rattle.sweep.specs.Sweep.{objectSweep, freeSweep, Sweeps}
@@ -55,7 +55,7 @@ abbrev pub frees : Contract (List ℕ) Listed (List ℕ)
 frees m old r new = Lists (freeFound m (length old)) old r new
 
 abbrev pub reaches : Contract (ℕ × ℕ) Reached (Unit {0})
-reaches m h r l = r ≡ addressAnswer (addressFound m (h .0) (h .1))
+reaches m h r l = Reaches m (h .0) (h .1) r
 
 -- id, first address, fill
 abbrev pub sweeps : Contract (ℕ × ℕ × ℕ × List ℕ) Swept (List ℕ)

@@ -33,11 +33,15 @@ use Rattle.edits.proofs.Outcomes.{check-refused, touching-refused, judged-told}
 use Rattle.claim.proofs.HolesFree.{holes-are-free}
 use Rattle.claim.specs.declared.Claimed.{Claimed}
 use Rattle.claim.specs.declared.Claimed.the-variants as claimed
-use Rattle.claim.specs.Claimed.{firstPair, choiceAnswer, claimAnswer, Claims}
+use Rattle.claim.specs.Claimed.{firstPair, choiceAnswer, claimAnswer, claimNumbers, claimTold, Claims}
 use Rattle.claim.specs.Given.{PieceFits}
 
+numbers-told : (o : Answer Edit) → claimNumbers (claimAnswer o) ≡ claimTold o
+numbers-told (refused n z) = refl
+numbers-told (answered e) = refl
+
 claims : (m : List ℕ) (size : ℕ) (o : Answer Edit) → outcome m (claim size) ≡ o → Claims m size (claimAnswer o) (bytesAfter m o)
-claims m size o e = record { answer = ap claimAnswer (sym e); bytes = ap (bytesAfter m) (sym e) }
+claims m size o e = record { answer = ap claimAnswer (sym e); numbers = numbers-told o ∙ ap claimTold (sym e); bytes = ap (bytesAfter m) (sym e) }
 
 pub check-refuses : (m : List ℕ) (size : ℕ) (r : Refusal) → checked m ≡ check.Refused r → Claims m size (claimed.Refused r) m
 check-refuses m size r e = claims m size (refused (r .number) (r .zone)) (check-refused m (claim size) r e)
@@ -117,4 +121,4 @@ module _ {m : List ℕ} {g : Geometry} (ed : EditableMap m g) (size : ℕ) where
       piece-claims after e =
           let given = gives id (pair start len ∷ []) in
           let o = judged-told ed (claim size) (answered given) claim-given in
-          record { answer = ap claimAnswer (sym o); bytes = e ∙ ap (bytesAfter m) (judged-told ed (place id (start ∷ len ∷ [])) (answered given) as-place ∙ sym o) }
+          record { answer = ap claimAnswer (sym o); numbers = ap claimTold (sym o); bytes = e ∙ ap (bytesAfter m) (judged-told ed (place id (start ∷ len ∷ [])) (answered given) as-place ∙ sym o) }

@@ -29,12 +29,18 @@ abbrev pub claimAnswer : Answer Edit → Claimed
 claimAnswer (refused n z) = claimed.Refused (refusal n z)
 claimAnswer (answered e) = pieceOf (editId e) (pairsIn e)
 
--- the answer and every byte of the map
-pub record Claims (m : List ℕ) (size : ℕ) (r : Claimed) (after : List ℕ) : Type 0 where
-  pub answer : r ≡ claimAnswer (outcome m (call.claim size))
-  pub bytes : after ≡ step m (call.claim size)
-
 -- the paper's numbers: refusal (0: accepted), zone told, id, disc bit, length
 abbrev pub claimNumbers : Claimed → ℕ × ℕ × ℕ × ℕ × ℕ
 claimNumbers (claimed.Piece id start len) = (0, 0, id, start, len)
 claimNumbers (claimed.Refused r) = (r .number, r .zone, 0, 0, 0)
+
+-- as the table gives them for the outcome
+abbrev pub claimTold : Answer Edit → ℕ × ℕ × ℕ × ℕ × ℕ
+claimTold (refused n z) = (n, z, 0, 0, 0)
+claimTold (answered e) = (0, 0, editId e, firstPair (pairsIn e) .start, firstPair (pairsIn e) .len)
+
+-- the answer with its numbers, and every byte of the map
+pub record Claims (m : List ℕ) (size : ℕ) (r : Claimed) (after : List ℕ) : Type 0 where
+  pub answer : r ≡ claimAnswer (outcome m (call.claim size))
+  pub numbers : claimNumbers r ≡ claimTold (outcome m (call.claim size))
+  pub bytes : after ≡ step m (call.claim size)

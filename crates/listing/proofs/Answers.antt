@@ -30,7 +30,7 @@ use Rattle.map.specs.declared.Checked.{Checked}
 use Rattle.map.specs.declared.Checked.the-variants as check
 use Rattle.listing.specs.declared.Listed.the-variants as listed
 use Rattle.walk.specs.HeldBy.{heldFrom}
-use Rattle.listing.specs.Listed.{withRoom, present, objectRead, objectFound, freeFound, Lists}
+use Rattle.listing.specs.Listed.{withRoom, present, objectRead, objectFound, freeFound, listNumbers, Lists}
 use Rattle.listing.proofs.Stored.{stored-append, stored-first}
 use Rattle.listing.proofs.HeldZones.{held-all}
 use Rattle.listing.proofs.FreeHeld.{free-spans}
@@ -38,11 +38,11 @@ use Rattle.listing.proofs.ObjectOrder.{in-object-order}
 
 -- what is found, and the answer
 refusal-lists : {f : Answer (List Pair)} (old : List ℕ) {n z : ℕ} {r : Refusal} → f ≡ refused n z → r ≡ refusal n z → Lists f old (listed.Refused r) old
-refusal-lists old e er = rw e (record { answer = ap listed.Refused er; list = refl })
+refusal-lists old e er = rw e (record { answer = ap listed.Refused er; numbers = ap (λ (r : Refusal). listNumbers (listed.Refused r)) er; list = refl })
 
 pairs-list : {f : Answer (List Pair)} (old : List ℕ) {new : List ℕ} {n : ℕ} (qs : List Pair) → f ≡ answered qs → n ≡ length qs → 2 * length qs ≤ length old → new ≡ sets old 0 (numbersOf qs)
     → Lists f old (listed.Pairs n) new
-pairs-list old qs e en h es = rw e (record { answer = ap listed.Pairs en; list = es ∙ stored-first qs old h })
+pairs-list old qs e en h es = rw e (record { answer = ap listed.Pairs en; numbers = ap (λ (n : ℕ). listNumbers (listed.Pairs n)) en; list = es ∙ stored-first qs old h })
 
 -- 17 is told where the pairs do not fit
 too-few : (room n : ℕ) (qs : List Pair) → n ≡ length qs → room / 2 < n → withRoom room qs ≡ refused 17 0

@@ -46,12 +46,18 @@ abbrev pub listAfter : List ℕ → Answer (List Pair) → List ℕ
 listAfter old (answered qs) = numbersOf qs ++ drop (2 * length qs) old
 listAfter old (refused n z) = old
 
--- the answer, and every entry of the lent list
-pub record Lists (found : Answer (List Pair)) (old : List ℕ) (r : Listed) (new : List ℕ) : Type 0 where
-  pub answer : r ≡ listAnswer found
-  pub list : new ≡ listAfter old found
-
 -- the paper's numbers: refusal (0: accepted), zone told, pairs
 abbrev pub listNumbers : Listed → ℕ × ℕ × ℕ
 listNumbers (listed.Pairs n) = (0, 0, n)
 listNumbers (listed.Refused r) = (r .number, r .zone, 0)
+
+-- as the table gives them for what is found
+abbrev pub listTold : Answer (List Pair) → ℕ × ℕ × ℕ
+listTold (refused n z) = (n, z, 0)
+listTold (answered qs) = (0, 0, length qs)
+
+-- the answer with its numbers, and every entry of the lent list
+pub record Lists (found : Answer (List Pair)) (old : List ℕ) (r : Listed) (new : List ℕ) : Type 0 where
+  pub answer : r ≡ listAnswer found
+  pub numbers : listNumbers r ≡ listTold found
+  pub list : new ≡ listAfter old found

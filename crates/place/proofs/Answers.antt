@@ -33,7 +33,7 @@ use Rattle.walk.specs.declared.Touching.the-variants as told
 use Rattle.edits.proofs.PiecesKept.{editable-from}
 use Rattle.edits.proofs.Outcomes.{check-refused, id-refused, touching-refused, judged-told}
 use Rattle.place.specs.declared.Placed.the-variants as placed
-use Rattle.place.specs.Placed.{placeAnswer, Places}
+use Rattle.place.specs.Placed.{placeAnswer, placeTold, Places}
 use Rattle.place.specs.Asked.{PlaceAsks}
 use Rattle.writer.specs.Edited.{editOf, EditAsks, editedMap}
 use Rattle.writer.proofs.ListOrder.{fitsAll, list-fits-is}
@@ -41,7 +41,7 @@ use Rattle.place.proofs.Absent.{absent, present}
 use Rattle.place.proofs.ZonesJudged.{some-id}
 
 refusal-places : (m : List ℕ) (id : ℕ) (list : List ℕ) (n z : ℕ) → outcome m (judged.place id list) ≡ refused n z → Places m id list (placed.Refused (refusal n z)) m
-refusal-places m id list n z e = record { answer = sym (ap placeAnswer e); bytes = sym (ap (bytesAfter m) e) }
+refusal-places m id list n z e = record { answer = sym (ap placeAnswer e); numbers = sym (ap placeTold e); bytes = sym (ap (bytesAfter m) e) }
 
 pub check-refuses : (m : List ℕ) (id : ℕ) (list : List ℕ) (r : Refusal) → checked m ≡ check.Refused r → Places m id list (placed.Refused r) m
 check-refuses m id list r e =
@@ -115,4 +115,4 @@ module _ {m : List ℕ} {g : Geometry} {id : ℕ} {list : List ℕ} (q : PlaceAs
     pub done-places : (after : List ℕ) → after ≡ editedMap m (editOf 0 (pairsFrom list) id) → Places m id list placed.Done after
     done-places after e =
         let o = judged-told (q .editable) (judged.place id list) (answered (gives id (pairsFrom list))) room in
-        record { answer = sym (ap placeAnswer o); bytes = e ∙ ap (editedMap m) edit-is ∙ sym (ap (bytesAfter m) o) }
+        record { answer = sym (ap placeAnswer o); numbers = sym (ap placeTold o); bytes = e ∙ ap (editedMap m) edit-is ∙ sym (ap (bytesAfter m) o) }

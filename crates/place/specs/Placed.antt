@@ -14,12 +14,18 @@ abbrev pub placeAnswer : Answer Edit → Placed
 placeAnswer (refused n z) = placed.Refused (refusal n z)
 placeAnswer (answered e) = placed.Done
 
--- the answer and every byte of the map
-pub record Places (m : List ℕ) (id : ℕ) (list : List ℕ) (r : Placed) (after : List ℕ) : Type 0 where
-  pub answer : r ≡ placeAnswer (outcome m (call.place id list))
-  pub bytes : after ≡ step m (call.place id list)
-
 -- the paper's numbers: refusal (0: accepted) and zone told
 abbrev pub placeNumbers : Placed → ℕ × ℕ
 placeNumbers placed.Done = (0, 0)
 placeNumbers (placed.Refused r) = (r .number, r .zone)
+
+-- as the table gives them for the outcome
+abbrev pub placeTold : Answer Edit → ℕ × ℕ
+placeTold (refused n z) = (n, z)
+placeTold (answered e) = (0, 0)
+
+-- the answer with its numbers, and every byte of the map
+pub record Places (m : List ℕ) (id : ℕ) (list : List ℕ) (r : Placed) (after : List ℕ) : Type 0 where
+  pub answer : r ≡ placeAnswer (outcome m (call.place id list))
+  pub numbers : placeNumbers r ≡ placeTold (outcome m (call.place id list))
+  pub bytes : after ≡ step m (call.place id list)

@@ -37,7 +37,7 @@ use Rattle.writer.specs.Edited.{editOf, EditAsks, editedMap}
 
 refusal-releases : (m : List ℕ) (id : ℕ) (old : List ℕ) (n z : ℕ) → outcome m (call.release id (length old)) ≡ refused n z → Releases m id old (listed.Refused (refusal n z)) m old
 refusal-releases m id old n z e =
-    record { lists = subst⁻¹ (λ (x : Answer Edit). Lists (pairsTaken x) old (listed.Refused (refusal n z)) old) e (record { answer = refl; list = refl }); bytes = sym (ap (bytesAfter m) e) }
+    record { lists = subst⁻¹ (λ (x : Answer Edit). Lists (pairsTaken x) old (listed.Refused (refusal n z)) old) e (record { answer = refl; numbers = refl; list = refl }); bytes = sym (ap (bytesAfter m) e) }
 
 pub check-refuses : (m : List ℕ) (id : ℕ) (old : List ℕ) (r : Refusal) → checked m ≡ check.Refused r → Releases m id old (listed.Refused r) m old
 check-refuses m id old r e = refusal-releases m id old (r .number) (r .zone) (check-refused m (call.release id (length old)) r e)

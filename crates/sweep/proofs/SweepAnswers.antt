@@ -28,7 +28,7 @@ use Rattle.listing.specs.Listed.{present}
 use Rattle.listing.proofs.Ascend.{map-apart}
 use Rattle.sweep.specs.declared.Swept.{Swept}
 use Rattle.sweep.specs.declared.Swept.the-variants as swept
-use Rattle.sweep.specs.Sweep.{sweptBytes, pairCounts, Class, onDisc, objectClass, objectSweep, freeSweep, Sweeps}
+use Rattle.sweep.specs.Sweep.{sweptBytes, pairCounts, Class, onDisc, objectClass, objectSweep, freeSweep, sweepNumbers, Sweeps}
 use Rattle.sweep.proofs.ApartCounts.{counts-apart}
 use Rattle.bits.proofs.Tests.{both}
 
@@ -37,7 +37,7 @@ as-found : {f k : Answer Class} {first fill : ℕ} {old : List ℕ} {r : Swept} 
 as-found e s = rw e s
 
 refusal-sweeps : {f : Answer Class} (first fill : ℕ) (old : List ℕ) {n z : ℕ} {r : Refusal} → f ≡ refused n z → r ≡ refusal n z → Sweeps f first fill old (swept.Refused r) old
-refusal-sweeps first fill old e er = as-found e (record { answer = ap swept.Refused er; image = refl })
+refusal-sweeps first fill old e er = as-found e (record { answer = ap swept.Refused er; numbers = ap (λ (r : Refusal). sweepNumbers (swept.Refused r)) er; image = refl })
 
 -- the check's own refusal
 pub check-refuses : (m old : List ℕ) (first fill : ℕ) (f : List (List Entry) → Answer Class) {c : Checked} {r : Refusal} → c ≡ checked m → c ≡ check.Refused r
@@ -61,7 +61,8 @@ module _ {m : List ℕ} {g : Geometry} (a : AcceptedMap m g) (holder first fill 
       → Sweeps (onDisc g first (length old) held) first fill old (swept.Count count) new
   held-swept t en ec =
       let k : onDisc g first (length old) held ≡ answered (record { unit = g .unit; pairs = held }) = rw (le-leb (first + length old) (g .size) (not-past t)) in
-      as-found k (record { answer = ap swept.Count (ec ∙ counts-apart (g .unit) 0 (discBits g) held (map-apart a holder) first (length old)); image = en })
+      let e = ec ∙ counts-apart (g .unit) 0 (discBits g) held (map-apart a holder) first (length old) in
+      as-found k (record { answer = ap swept.Count e; numbers = ap (λ (n : ℕ). sweepNumbers (swept.Count n)) e; image = en })
 
 -- free space
 module _ {m : List ℕ} {g : Geometry} (a : AcceptedMap m g) (first fill : ℕ) (old : List ℕ) where

@@ -74,11 +74,18 @@ abbrev pub imageAfter : ℕ → ℕ → List ℕ → Answer Class → List ℕ
 imageAfter first fill image (answered c) = sweptBytes (c .unit) (c .pairs) fill first image
 imageAfter first fill image (refused k z) = image
 
-pub record Sweeps (found : Answer Class) (first fill : ℕ) (old : List ℕ) (r : Swept) (new : List ℕ) : Type 0 where
-  pub answer : r ≡ sweepAnswer first (length old) found
-  pub image : new ≡ imageAfter first fill old found
-
 -- the paper's numbers: refusal (0: accepted), zone told, count
 abbrev pub sweepNumbers : Swept → ℕ × ℕ × ℕ
 sweepNumbers (swept.Count n) = (0, 0, n)
 sweepNumbers (swept.Refused r) = (r .number, r .zone, 0)
+
+-- as the table gives them for the class that is found
+abbrev pub sweepTold : ℕ → ℕ → Answer Class → ℕ × ℕ × ℕ
+sweepTold first n (refused k z) = (k, z, 0)
+sweepTold first n (answered c) = (0, 0, coveredCount (c .unit) (c .pairs) first n)
+
+-- the answer with its numbers, and every byte of the stretch
+pub record Sweeps (found : Answer Class) (first fill : ℕ) (old : List ℕ) (r : Swept) (new : List ℕ) : Type 0 where
+  pub answer : r ≡ sweepAnswer first (length old) found
+  pub numbers : sweepNumbers r ≡ sweepTold first (length old) found
+  pub image : new ≡ imageAfter first fill old found

@@ -64,8 +64,8 @@ returns c =
       };
       free-writes-nothing = λ h. let e : _≡_ {A = ℕ} 9 12 = ap (λ (l : List ℕ). getD l 0 0) (h mapA lent .1 .list) in omega arith;
       address = record {
-        refuses = λ h. at-refused (sym (h mapB (0x000503, 0) .2));
-        one-answer = λ h. let k = h (0x000503, 0) .1 in at-refused (sym (k mapB .1) ∙ k mapA .1);
+        refuses = λ h. at-refused (sym (h mapB (0x000503, 0) .2 .answer));
+        one-answer = λ h. let k = h (0x000503, 0) .1 in at-refused (sym (k mapB .1 .answer) ∙ k mapA .1 .answer);
       };
       sweep = record {
         refuses = λ h. count-refused (sym (h mapB (5, 12286, 7, four) .2 .answer));
