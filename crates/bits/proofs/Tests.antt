@@ -28,10 +28,6 @@ pub or-right : (a b : Bool) → b ≡ true → a || b ≡ true
 or-right true b p = refl
 or-right false b p = p
 
-pub and-assoc : (a b c : Bool) → (a && b) && c ≡ a && (b && c)
-and-assoc true b c = refl
-and-assoc false b c = refl
-
 pub and-with-true : (b : Bool) → b && true ≡ b
 and-with-true true = refl
 and-with-true false = refl

@@ -6,12 +6,9 @@ use Prim.Native.Nat.{ℕ, zero, suc, _+_, _-_, _*_, _<_, _≤_}
 use native.Mathlib.Omega.{arith}
 use lib.ListN.{length, take, drop}
 use lib.Seq.{length-take-le, take-at, drop-at, take-take, drop-drop}
-use borrow.Rule.Slice.PartMut.{putMid, take-put, drop-put, same-len-mid}
+use borrow.Rule.Slice.PartMut.{putMid, take-put, drop-put}
 use Rattle.model.specs.Blocks.{blockAt}
-use Rattle.model.proofs.ByPlace.{zone-end, block-length}
-use lib.Dec.{ltb}
-use borrow.Author.Tests.{ltb-true, ltb-false}
-use Rattle.bits.proofs.Tests.{by-test}
+use Rattle.model.proofs.ByPlace.{zone-end}
 
 -- a part that lies in the first e elements
 part-in-front : (k d e : ℕ) (l : List ℕ) → d + k ≤ e → take k (drop d (take e l)) ≡ take k (drop d l)
@@ -52,14 +49,3 @@ module _ (size n : ℕ) (m b : List ℕ) (z : ℕ) (whole : length m ≡ n * siz
       (behind (putBlock size z m b)
       ∙ ap (drop (y * size - e)) (drop-put (z * size) e m b (omega arith) ends (sized ∙ omega arith))
       ∙ sym (behind m))
-
-  pub put-other : (y : ℕ) → (y ≡ z → ⊥) → blockAt size y (putBlock size z m b) ≡ blockAt size y m
-  put-other y d =
-      by-test (ltb y z)
-      (λ t. put-before y (ltb-true y z t))
-      (λ t. put-after y (omega (arith, ltb-false y z t, d)))
-
-  pub put-length : length (putBlock size z m b) ≡ n * size
-  put-length =
-      let k : z * size + size - z * size ≡ size = omega arith in
-      same-len-mid (z * size) (z * size + size - z * size) m b (sized ∙ sym (block-length m n size whole z h)) ∙ whole

@@ -16,9 +16,8 @@ use Rattle.model.specs.Chain.{Entry, noneTouch}
 use Rattle.model.specs.Blocks.{freeLink, linkIn, allocBits}
 use Rattle.model.specs.Pieces.{Piece, ownedOf}
 use Rattle.model.specs.Drawing.{drawnFragments, draw, linkOf, drawnEntries, readBits, Drawable}
-use Rattle.model.proofs.ChainDrawn.{Lies}
 use Rattle.model.proofs.FragmentsRead.{cut-written}
-use Rattle.model.proofs.ZoneDrawn.{fit-drawn, read-lies, read-drawn, drawn-read}
+use Rattle.model.proofs.ZoneDrawn.{fit-drawn, read-drawn, drawn-read}
 use Rattle.edits.specs.Written.{newBits, sealed, written}
 use Rattle.edits.proofs.BlockBits.{BitsInBlock, header-rest, four-bytes, alloc-length, in-parts, front-new, length-new, drawn-new, back-new}
 
@@ -98,11 +97,6 @@ bytes-from (suc n) (x ∷ b) h = bytes-from n b (h .1)
 module _ (idlen at end : ℕ) (b : List ℕ) (es : List Entry) (c : BlockRead idlen at end b es) where
   whole : at + length (allocBits at end b) ≡ end
   whole = omega (arith, alloc-length idlen at end b (c .bits), c .bits)
-
-  pub read-lie : Lies at end (ownedOf es)
-  read-lie =
-      let e : suc (idlen - 1) ≡ idlen = omega (arith, c .bits) in
-      rw whole at (read-lies (idlen - 1) at (linkIn b) (allocBits at end b) es (rw e (c .read)))
 
   pub read-drawing : (allocBits at end b ≡ draw idlen at end (ownedOf es)) × (linkIn b ≡ linkOf at end (ownedOf es))
   read-drawing = rw whole at (drawn-read idlen (c .bits .ids) at (linkIn b) (allocBits at end b) es (omega (arith, c .bits)) (c .read) (c .none-touch))

@@ -42,7 +42,6 @@ pub mod ZonesAfter
 pub mod PairsGiven
 pub mod BlockPut
 pub mod WrittenBelow
-pub mod OwnersSome
 pub mod PairsCounted
 pub mod EditableMap
 pub mod Outcomes

@@ -17,27 +17,20 @@ use Rattle.model.specs.Check.{blocksOf, mapRead}
 use Rattle.model.specs.Pieces.{Piece, piecesOfZones, objectPairs}
 use Rattle.edits.specs.Edits.{Disc, Edit, edit}
 use Rattle.edits.specs.Judge.{Call, judge}
-use Rattle.edits.specs.Runs.{Undone, crossRun}
+use Rattle.edits.specs.Runs.{Undone}
 use Rattle.edits.proofs.PieceRuns.{after, run, edits}
-use Rattle.edits.proofs.RunsKept.{allowed, run-undone, run-same}
-use Rattle.edits.proofs.ReadsAfter.{ListedAfter, listed-after}
+use Rattle.edits.proofs.RunsKept.{run-undone}
 use Rattle.edits.specs.Written.{rewritten}
 use Rattle.edits.specs.Steps.{discOf, outcome, bytesAfter, step, steps}
 use Rattle.edits.specs.Editable.{Editable}
 use Rattle.edits.proofs.MapWritten.{drawnZones, none-touching}
 use Rattle.edits.proofs.DiscKept.{disc-run}
 use Rattle.edits.proofs.StepWritten.{outcome-judged, writtenMap, length-new-map, geometry-new, bytes-new, read-new, disc-new, steps-new}
-use Rattle.edits.proofs.MapAccepted.{same-answer, map-geometry, map-of, map-disc, map-as-written}
+use Rattle.edits.proofs.MapAccepted.{map-geometry, map-of, map-disc, map-as-written}
 
 -- a map that is accepted with geometry g, in which no two free fragments touch, and whose pieces and cross checks are s
 abbrev pub ReadsAs : Geometry → Disc → List ℕ → Type 0
 ReadsAs g s m = (ess : List (List Entry)) × (mapRead m ≡ answered ess) × (touching 0 ess ≡ none) × (discOf m ess ≡ s) × (geometryOf m ≡ g)
-
--- and whatever the check reads of it is that
-pub reads-same : (g : Geometry) (s : Disc) (m : List ℕ) (ess : List (List Entry)) → ReadsAs g s m → mapRead m ≡ answered ess → (touching 0 ess ≡ none) × (discOf m ess ≡ s)
-reads-same g s m ess r e =
-    let same : r .0 ≡ ess = same-answer (sym (r .1) ∙ e) in
-    subst (λ (x : List (List Entry)). (touching 0 x ≡ none) × (discOf m x ≡ s)) same (r .2, r .3)
 
 -- a map that reads as a disc: what its objects list, and that it may be edited
 reads-zones : (g : Geometry) (s : Disc) (m : List ℕ) (r : ReadsAs g s m) → zonesOf m ≡ r .0
@@ -66,13 +59,6 @@ module _ (m : List ℕ) (ess : List (List Entry)) (bytes : Bytes m) (accepted : 
       run-bytes cs
       ∙ ap (writtenMap (geometryOf m) m) (run-undone (geometryOf m) (discOf m ess) cs (map-geometry m ess bytes accepted) (map-disc m ess bytes accepted apart .pieces .fit) u)
       ∙ map-as-written m ess bytes accepted apart
-
-  -- where every object has the pieces that it had, the map is as it was but for cross checks, as the rule has them, and zone
-  -- checks
-  pub same-pieces-bytes : (cs : List Call) → (run (geometryOf m) (discOf m ess) cs) .pieces ≡ (discOf m ess) .pieces
-      → steps m cs ≡ flat (rewritten (geometryOf m) (blocksOf (geometryOf m) m)
-      (record { pieces = (discOf m ess) .pieces; cross = crossRun (geometryOf m) (edits (geometryOf m) (discOf m ess) cs) ((discOf m ess) .cross) }))
-  same-pieces-bytes cs e = run-bytes cs ∙ ap (writtenMap (geometryOf m) m) (run-same (geometryOf m) (discOf m ess) cs e)
 
   -- after every run the map is accepted again, with the pieces and cross checks that the run leaves
   pub run-kept : (cs : List Call) → ReadsAs (geometryOf m) (run (geometryOf m) (discOf m ess) cs) (steps m cs)
@@ -109,19 +95,3 @@ module _ (m : List ℕ) (ess : List (List Entry)) (bytes : Bytes m) (accepted : 
       let o : outcome m c ≡ answered e = outcome-judged m ess accepted apart c ∙ h in
       let k : ReadsAs (geometryOf m) (after (geometryOf m) (discOf m ess) c) (step m c) = run-kept (c ∷ []) in
       (o, ap (bytesAfter m) o ∙ ap (λ (r : Answer (List (List Entry))). flat (rewritten (geometryOf m) (blocksOf (geometryOf m) m) (edit (geometryOf m) e (discOf m (zonesIn r))))) accepted, rw h at k)
-
-  -- so every object lists what it listed, but for the one that the call names
-  pub step-listed : (c : Call) (e : Edit) → judge (geometryOf m) ((discOf m ess) .pieces) c ≡ answered e → (after-ess : List (List Entry)) → mapRead (step m c) ≡ answered after-ess
-      → ListedAfter (geometryOf m) ((discOf m ess) .pieces) e ((discOf (step m c) after-ess) .pieces)
-  step-listed c e h after-ess r =
-      let g = geometryOf m in
-      let a = allowed g ((discOf m ess) .pieces) c e (map-geometry m ess bytes accepted) (map-disc m ess bytes accepted apart .pieces .fit) h in
-      let same = reads-same g (edit g e (discOf m ess)) (step m c) after-ess (step-accepted c e h .2) r .1 in
-      subst⁻¹ (λ (x : Disc). ListedAfter g ((discOf m ess) .pieces) e (x .pieces)) same (listed-after g (discOf m ess) e (a .0))
-
-  -- every call
-  pub step-bytes : (c : Call) → step m c ≡ flat (rewritten (geometryOf m) (blocksOf (geometryOf m) m) (after (geometryOf m) (discOf m ess) c))
-  step-bytes c = run-bytes (c ∷ [])
-
-  pub step-kept : (c : Call) → ReadsAs (geometryOf m) (after (geometryOf m) (discOf m ess) c) (step m c)
-  step-kept c = run-kept (c ∷ [])

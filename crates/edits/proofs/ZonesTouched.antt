@@ -9,22 +9,21 @@ use native.Mathlib.Omega.{arith}
 use lib.Dec.{eqb, ltb}
 use lib.Bits.{bitXor, xor-zero-r}
 use lib.ListN.{length, getD, take, length-append}
-use borrow.Author.Tests.{eqb-true, lt-ltb, le-ltb, ltb-true, ltb-false}
+use borrow.Author.Tests.{lt-ltb, ltb-false}
 use Rattle.bits.proofs.Tests.{by-test}
 use Rattle.checks.specs.Cross.{amount, touchedCount, changesFrom, changes, xorEach}
 use Rattle.geometry.specs.declared.Geometry.{Geometry}
-use Rattle.geometry.specs.Places.{zoneOf, blockBit}
+use Rattle.geometry.specs.Places.{zoneOf}
 use Rattle.model.specs.Chain.{Pair}
 use Rattle.model.specs.Pieces.{Piece, keep, isOf, piecesOf, late, rotate, objectPairs}
 use Rattle.model.proofs.Lists.{keep-append}
-use Rattle.edits.specs.Edits.{Disc, notOf, without, insert, put, own, give, touches, touchedFrom, touchedZones, crossed, Edit, takes, gives, pairsIn, edit, inZone}
-use Rattle.edits.proofs.Kept.{All, all-put, keep-comm, length-parts}
+use Rattle.edits.specs.Edits.{Disc, notOf, without, put, own, give, touches, touchedFrom, touchedZones, crossed, Edit, takes, gives, pairsIn, edit, inZone}
+use Rattle.edits.proofs.Kept.{All, keep-comm, length-parts}
 use Rattle.edits.proofs.ByPlace.{Weak, keep-put-by-place}
 use Rattle.edits.proofs.PutIn.{keep-put-no, without-absent}
 use Rattle.edits.proofs.Undo.{Allowed}
 use Rattle.edits.proofs.RunsKept.{cross-edit}
-use Rattle.edits.specs.Written.{toBlock}
-use Rattle.edits.proofs.ZonePlaces.{zoneOfPiece, zone-start}
+use Rattle.edits.proofs.ZonePlaces.{zoneOfPiece}
 
 -- the touched zones counted, one more
 pub count-next : (g : Geometry) (qs : List Pair) (y n : ℕ) → touchedCount (touchedFrom g qs y (suc n)) ≡ touchedCount (touchedFrom g qs y n) + cond (touches g (y + n) qs) 1 0
@@ -81,27 +80,6 @@ untouched-pieces g z s (takes id qs) a h =
     let none : ltb 0 (length (piecesOf id (inZone g z (s .pieces)))) ≡ false = sym (touches-object g z id (s .pieces)) ∙ ap (touches g z) (sym a) ∙ h in
     zone-without g z id (s .pieces) ∙ without-absent id (inZone g z (s .pieces)) (no-length _ none)
 untouched-pieces g z s (gives id qs) a h = keep-put-no (λ p. eqb (zoneOfPiece g p) z) (map (own id) qs) (s .pieces) (none-there g z id qs h)
-
--- the same in block bits
-pub block-without : (g : Geometry) (z id : ℕ) (l : List Piece) → map (toBlock g z) (without id l) ≡ without id (map (toBlock g z) l)
-block-without g z id [] = refl
-block-without g z id (x ∷ xs) = by-test (isOf id x) (λ t. simp (t, block-without g z id xs)) (λ t. simp (t, block-without g z id xs))
-
-block-insert : (g : Geometry) (z : ℕ) (p : Piece) (l : List Piece) → eqb (zoneOfPiece g p) z ≡ true → All (λ x. eqb (zoneOfPiece g x) z) l
-    → map (toBlock g z) (insert p l) ≡ insert (toBlock g z p) (map (toBlock g z) l)
-block-insert g z p [] h a = refl
-block-insert g z p (x ∷ xs) h a =
-    let i = zone-start g z p (eqb-true (zoneOfPiece g p) z h) in
-    let j = zone-start g z x (eqb-true (zoneOfPiece g x) z (a .0)) in
-    by-test (ltb (p .at .start) (x .at .start))
-    (λ t. simp (t, lt-ltb (blockBit g z (p .at .start)) (blockBit g z (x .at .start)) (omega (arith, ltb-true (p .at .start) (x .at .start) t))))
-    (λ t. simp (t, le-ltb (blockBit g z (p .at .start)) (blockBit g z (x .at .start)) (omega (arith, ltb-false (p .at .start) (x .at .start) t)), block-insert g z p xs h (a .1)))
-
-pub block-put : (g : Geometry) (z : ℕ) (ps l : List Piece) → All (λ x. eqb (zoneOfPiece g x) z) ps → All (λ x. eqb (zoneOfPiece g x) z) l
-    → map (toBlock g z) (put ps l) ≡ put (map (toBlock g z) ps) (map (toBlock g z) l)
-block-put g z [] l h a = refl
-block-put g z (p ∷ ps) l h a =
-    block-insert g z p (put ps l) (h .0) (all-put (λ x. eqb (zoneOfPiece g x) z) ps l (h .1) a) ∙ ap (insert (toBlock g z p)) (block-put g z ps l (h .1) a)
 
 -- cross checks by their place
 pub touched-at : (g : Geometry) (qs : List Pair) (z n i : ℕ) → i < n → getD (touchedFrom g qs z n) i false ≡ touches g (z + i) qs

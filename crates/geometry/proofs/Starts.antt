@@ -4,9 +4,9 @@ use mathlib.Core.Path.{_≡_, refl, sym, ap, _∙_}
 use Prim.Native.Nat.{ℕ, zero, suc, _*_, _/_, _<_, _≤_}
 use native.Mathlib.Nat.{zero-mul, mul-zero, mul-comm, div-lt-iff-lt-mul, le-div-iff-mul-le, not-suc-le-zero, zero-lt-suc}
 use native.Mathlib.Omega.{arith}
-use lib.Dec.{eqb, leb, ltb}
+use lib.Dec.{eqb, ltb}
 use borrow.Author.Tests.{lt-ltb, le-ltb, ltb-true, ltb-false}
-use Rattle.bits.proofs.Tests.{by-test, both, and-with-false}
+use Rattle.bits.proofs.Tests.{by-test, and-with-false}
 use Rattle.geometry.specs.declared.Geometry.{Geometry}
 use Rattle.geometry.specs.declared.Start.{Start}
 use Rattle.geometry.specs.declared.Start.the-variants as start
@@ -34,9 +34,6 @@ module _ (g : Geometry) (id : ℕ) where
   no-ids low e =
       let p : g .ids * g .zones ≡ 0 = ap (λ (x : ℕ). x * g .zones) e ∙ zero-mul (g .zones) in
       rw (le-ltb id (g .ids * g .zones) (omega arith), and-with-false)
-
-  pub some-ids : (low : ℕ) → idFrom low g id ≡ true → 0 < g .ids
-  some-ids low t = factors (g .ids) (g .zones) id (ltb-true _ _ (both (leb low id) (ltb id (g .ids * g .zones)) t .1)) .0
 
   pub by-division : (g .ids ≡ 0 → ⊥) → ltb (id / g .ids) (g .zones) ≡ ltb id (g .ids * g .zones)
   by-division n =

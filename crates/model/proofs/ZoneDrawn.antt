@@ -20,7 +20,7 @@ use Rattle.model.specs.Drawing.{GapRoom, Drawable, draw, linkOf, followA
 use Rattle.model.proofs.Options.{none-some}
 use Rattle.model.proofs.FragmentsRead.{cut-written, written-cut}
 use Rattle.model.proofs.Followed.{Long, total}
-use Rattle.model.proofs.ChainDrawn.{Lies, follow-drawn, drawn-follow, linked, free-or-ahead, link-back, follow-lies}
+use Rattle.model.proofs.ChainDrawn.{Lies, follow-drawn, drawn-follow, linked, free-or-ahead, link-back}
 
 pub hole-le : (n at end : ℕ) → GapRoom n at end → at ≤ end
 hole-le n at end (inl e) = omega arith
@@ -96,19 +96,6 @@ draw-read n at link bits es z e c = go (cut n edge bits) refl (subst (λ (m : �
         let t : length bits ≡ total fs = ap length (w .0) ∙ length-frags (suc n) fs (w .1) in
         let d = drawn-follow at (onward 8 link) (at + length bits) false fs es (omega arith) (long-fit (suc n) fs (w .1)) (omega arith) e c in
         (w .0 ∙ ap (fragmentBits (suc n)) (d .0), link-back 8 link _ (d .1))
-
-pub read-lies : (n at link : ℕ) (bits : List Bool) (es : List Entry) → readBits (suc n) at link bits ≡ some es → Lies at (at + length bits) (ownedOf es)
-read-lies n at link bits es e = go (cut n edge bits) refl (subst (λ (m : ℕ). followAll at link (cut m edge bits) ≡ some es) same e)
-  where
-    same : suc n - 1 ≡ n
-    same = omega arith
-
-    go : (r : Option (List Fragment)) → cut n edge bits ≡ r → followAll at link r ≡ some es → Lies at (at + length bits) (ownedOf es)
-    go none k e = absurd (none-some e)
-    go (some fs) k e =
-        let w = written-cut n bits fs k in
-        let t : length bits ≡ total fs = ap length (w .0) ∙ length-frags (suc n) fs (w .1) in
-        follow-lies at (onward 8 link) (at + length bits) fs es (long-fit (suc n) fs (w .1)) (omega arith) e
 
 -- the same, with the id's length as it stands
 module _ (idlen : ℕ) (h : 0 < idlen) where

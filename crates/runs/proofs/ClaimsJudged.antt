@@ -8,7 +8,7 @@ use mathlib.Core.Logic.{_⊎_, inl, inr}
 use Prim.Native.Nat.{ℕ, zero, suc, _+_, _-_, _*_, _<_, _≤_}
 use native.Mathlib.Omega.{arith}
 use lib.Dec.{eqb, ltb, leb}
-use borrow.Author.Tests.{eqb-true, eqb-false, lt-ltb, le-ltb, ltb-true, leb-false, lt-leb}
+use borrow.Author.Tests.{eqb-true, eqb-false, lt-ltb, le-ltb, ltb-true, leb-false}
 use Rattle.bits.proofs.Tests.{by-test}
 use Rattle.geometry.specs.declared.Geometry.{Geometry}
 use Rattle.geometry.specs.Record.{geometryOf}
@@ -111,10 +111,6 @@ none-long n (x ∷ xs) e h i =
     go : (h ≡ x) ⊎ In h xs → x .len < n → (In h xs → h .len < n) → h .len < n
     go (inl j) lt ih = let u : h .len ≡ x .len = ap (λ (r : Pair). r .len) j in omega arith
     go (inr j) lt ih = ih j
-
-pub all-short : (n : ℕ) (hs : List Pair) → ((h : Pair) → In h hs → h .len < n) → firstHole n hs ≡ none
-all-short n [] f = refl
-all-short n (x ∷ xs) f = simp (lt-leb n (x .len) (f x (inl refl)), all-short n xs (λ h i. f h (inr i)))
 
 -- what is taken, where nothing or at least m bits would remain
 part-taken : (m n : ℕ) (h : Pair) → (h .len ≡ n) ⊎ (n + m ≤ h .len) → (taken m n h) .len ≡ n

@@ -10,10 +10,6 @@ use Rattle.model.specs.Pieces.{Piece}
 use Rattle.writer.specs.declared.Piece as code
 use Rattle.writer.specs.Listed.{run, pieceIn, asPiece, pieceAt, piecesFrom, withPiece}
 
-pub length-run : (f : ℕ → Piece) (i n : ℕ) → length (run f i n) ≡ n
-length-run f i zero = refl
-length-run f i (suc n) = ap suc (length-run f (suc i) n)
-
 pub run-append : (f : ℕ → Piece) (i a b : ℕ) → run f i (a + b) ≡ run f i a ++ run f (i + a) b
 run-append f i zero b = (λ k. run f (sym (add-zero i) k) (zero-add b k))
 run-append f i (suc a) b =
