@@ -1,13 +1,13 @@
 -- Whole clusters. Sums and differences of multiples of k are multiples of k, so pieces in whole clusters leave gaps in whole
 -- clusters, in block bits and in disc bits alike; and a fragment in whole clusters that holds an id has at least m bits.
-use mathlib.Core.Path.{_≡_, refl, sym, ap, _∙_, subst}
+use mathlib.Core.Path.{_≡_, refl, _∙_}
 use mathlib.Core.Bool.{true}
 use mathlib.Core.List.{List, [], _∷_, map}
 use Prim.Native.Nat.{ℕ, zero, suc, _+_, _-_, _*_, _/_, _%_, _<_, _≤_}
 use native.Mathlib.Nat.{add-mod, zero-mod, zero-mul, suc-mul, mod-eq-zero-of-dvd, dvd-of-mod-eq-zero, dvd-sub, div-add-mod', div-lt-iff-lt-mul, mul-le-mul-right}
 use native.Mathlib.Omega.{arith}
 use lib.Dec.{eqb, ltb}
-use borrow.Author.Tests.{eqb-true, eq-eqb, ltb-false}
+use borrow.Author.Tests.{eqb-true, eq-eqb}
 use Rattle.bits.proofs.Tests.{by-test, both, and-true}
 use Rattle.geometry.specs.declared.Geometry.{Geometry}
 use Rattle.geometry.specs.Accepted.{AcceptedGeometry}
@@ -16,7 +16,6 @@ use Rattle.model.specs.Fragments.{Fragment}
 use Rattle.model.specs.Pieces.{Piece, pieceToDisc}
 use Rattle.model.specs.Drawing.{gap, drawnFragments}
 use Rattle.model.specs.Check.{inClusters}
-use Rattle.model.proofs.ChainDrawn.{Lies}
 use Rattle.edits.proofs.Kept.{All}
 use Rattle.edits.proofs.Returned.{isWhole}
 use Rattle.edits.specs.Written.{toBlock}
@@ -45,7 +44,7 @@ len-whole k p h = eqb-true (p .at .len % k) 0 ((both (eqb (p .at .start % k) 0) 
 pub is-whole : (k : ℕ) (p : Piece) → p .at .start % k ≡ 0 → p .at .len % k ≡ 0 → isWhole k p ≡ true
 is-whole k p h j = and-true (eqb (p .at .start % k) 0) (eqb (p .at .len % k) 0) (eq-eqb (p .at .start % k) 0 h) (eq-eqb (p .at .len % k) 0 j)
 
--- the fragments drawn from pieces in whole clusters, and back
+-- the fragments drawn from pieces in whole clusters
 whole-gap : (k at end next : ℕ) (fs : List Fragment) → at % k ≡ 0 → end % k ≡ 0 → inClusters k fs ≡ true → inClusters k (gap at end next fs) ≡ true
 whole-gap k at end next fs h j l = by-test (ltb at end) (λ t. simp (t, eq-eqb ((end - at) % k) 0 (sub-whole k end at j h), l)) (λ t. simp (t, l))
 
@@ -55,22 +54,6 @@ whole-drawn k at end (p ∷ ps) h j a =
     let s = start-whole k p (a .0) in
     let l = len-whole k p (a .0) in
     whole-gap k at (p .at .start) _ _ h s (simp (eq-eqb (p .at .len % k) 0 l, whole-drawn k (p .at .start + p .at .len) end ps (add-whole k (p .at .start) (p .at .len) s l) j (a .1)))
-
-gap-whole : (k at end next : ℕ) (fs : List Fragment) → at % k ≡ 0 → at ≤ end → inClusters k (gap at end next fs) ≡ true → (end % k ≡ 0) × (inClusters k fs ≡ true)
-gap-whole k at end next fs h y t =
-    by-test (ltb at end)
-    (λ u. let b = both (eqb ((end - at) % k) 0) (inClusters k fs) (simp u at t) in
-    let j : at + (end - at) ≡ end = omega arith in
-    (ap (λ (x : ℕ). x % k) (sym j) ∙ add-whole k at (end - at) h (eqb-true ((end - at) % k) 0 (b .0)), b .1))
-    (λ u. let j : at ≡ end = omega (arith, ltb-false at end u) in (subst (λ (x : ℕ). x % k ≡ 0) j h, simp u at t))
-
-pub drawn-whole : (k at end : ℕ) (ps : List Piece) → at % k ≡ 0 → Lies at end ps → inClusters k (drawnFragments at end ps) ≡ true → All (isWhole k) ps
-drawn-whole k at end [] h y t = tt
-drawn-whole k at end (p ∷ ps) h y t =
-    let b = gap-whole k at (p .at .start) _ _ h (y .0) t in
-    let c = both (eqb (p .at .len % k) 0) (inClusters k (drawnFragments (p .at .start + p .at .len) end ps)) (b .1) in
-    let l = eqb-true (p .at .len % k) 0 (c .0) in
-    (is-whole k p (b .0) l, drawn-whole k (p .at .start + p .at .len) end ps (add-whole k (p .at .start) (p .at .len) (b .0) l) (y .2) (c .1))
 
 module _ (g : Geometry) (ok : AcceptedGeometry g) where
   -- zones start and end with a cluster, by both counts

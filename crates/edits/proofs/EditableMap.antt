@@ -41,7 +41,7 @@ with-record {m} e P h = subst⁻¹ (λ (x : Geometry). EditableMap m x → P x) 
 pub map-pieces : {m : List ℕ} {g : Geometry} → EditableMap m g → AcceptedPieces g (piecesOn g m)
 map-pieces {m} e =
     with-record e (λ (x : Geometry). AcceptedPieces x (piecesOn x m))
-    (λ d. map-disc m (zonesOf m) (d .editable .bytes) (d .editable .accepted) (d .editable .apart) .pieces)
+    (λ d. map-disc m (zonesOf m) (d .editable .bytes) (d .editable .accepted) .pieces)
 
 pub zone-pieces : {m : List ℕ} {g : Geometry} → EditableMap m g → (z : ℕ) → z < g .zones
     → inZone g z (piecesOn g m) ≡ map (pieceToDisc g z) (ownedOf (entriesIn g z (zoneBlock g m z)))

@@ -1,5 +1,4 @@
--- An accepted map in which no two free fragments touch: its pieces and cross checks are accepted ones, and it is what is
--- written from them. The check is taken apart into its tests, and those of the zones into what each zone is found to be.
+-- An accepted map: its pieces and cross checks are accepted ones, and where no two free fragments touch it is what is written from them. The check is taken apart into its tests, and those of the zones into what each zone is found to be.
 use mathlib.Core.Path.{_≡_, refl, sym, ap, _∙_, subst, subst⁻¹}
 use mathlib.Core.Bool.{Bool, true, false}
 use mathlib.Core.List.{List, [], _∷_}
@@ -26,8 +25,8 @@ use Rattle.model.specs.Check.{joinZone, zoneRead, zonesRead, differing, crossSu
 use Rattle.model.proofs.Options.{none-some}
 use Rattle.edits.specs.Steps.{discOf}
 use Rattle.edits.proofs.Slices.{Sized, EachBytes, flat-blocks, sized-blocks, length-blocks, each-bytes}
-use Rattle.edits.proofs.ZoneFound.{zone-found}
-use Rattle.edits.proofs.MapFound.{ZonesFound, zone-pieces, pieces-found, as-read}
+use Rattle.edits.proofs.ZoneFound.{pieces-read, zone-found}
+use Rattle.edits.proofs.MapFound.{ZonesPieces, ZonesFound, zone-pieces, pieces-found, as-read}
 use Rattle.edits.proofs.BytesKept.{crosses-of-bytes}
 use Rattle.edits.proofs.DiscKept.{AcceptedDisc}
 use Rattle.edits.proofs.StepWritten.{MapOf, writtenMap}
@@ -54,6 +53,13 @@ apart-and-rest j es ds t = by-test (noneTouch false es) (λ u. (u, simp u at t))
 
 -- the zones one by one
 module _ (g : Geometry) (ok : AcceptedGeometry g) where
+  pub zones-pieces : (z : ℕ) (bs : List (List ℕ)) (ess : List (List Entry)) → Sized (g .sector) bs → zonesRead g z bs ≡ answered ess → ZonesPieces g z ess × (length ess ≡ length bs)
+  zones-pieces z [] ess y r = subst (λ (x : List (List Entry)). ZonesPieces g z x × (length x ≡ 0)) (same-answer r) (tt, refl)
+  zones-pieces z (b ∷ bs) ess y r =
+      let k = zone-and-rest g z b bs ess r in
+      let rest = zones-pieces (suc z) bs (k .1) (y .1) (k .3) in
+      subst (λ (x : List (List Entry)). ZonesPieces g z x × (length x ≡ length (b ∷ bs))) (k .4) ((pieces-read g ok z b (k .0) (y .0) (k .2), rest .0), ap suc (rest .1))
+
   pub zones-found : (z i j : ℕ) (bs : List (List ℕ)) (ess : List (List Entry)) → Sized (g .sector) bs → EachBytes bs
       → differing i bs ≡ none → zonesRead g z bs ≡ answered ess → touching j ess ≡ none → ZonesFound g z bs ess
   zones-found z i j [] ess y w c r t = subst (ZonesFound g z []) (same-answer r) tt
@@ -61,7 +67,7 @@ module _ (g : Geometry) (ok : AcceptedGeometry g) where
       let k = zone-and-rest g z b bs ess r in
       let u = apart-and-rest j (k .0) (k .1) (subst⁻¹ (λ (x : List (List Entry)). touching j x ≡ none) (k .4) t) in
       subst (ZonesFound g z (b ∷ bs)) (k .4)
-      (zone-found g ok z b (k .0) (y .0) (w .0) (rest .0) (u .0) (k .2), zones-found (suc z) (suc i) (suc j) bs (k .1) (y .1) (w .1) (rest .1) (k .3) (u .1))
+      (zone-found g ok z b (k .0) (y .0) (k .2) (w .0) (rest .0) (u .0), zones-found (suc z) (suc i) (suc j) bs (k .1) (y .1) (w .1) (rest .1) (k .3) (u .1))
     where
       rest : (getD b 0 0 ≡ zoneCheck b) × (differing (suc i) bs ≡ none)
       rest =
@@ -111,6 +117,27 @@ module _ (m : List ℕ) (ess : List (List Entry)) (bytes : Bytes m) (accepted : 
   pub map-of : MapOf (geometryOf m) m
   map-of = record { geometry = refl; record-fits = tests .record-fits; accepted = map-geometry; whole = tests .whole; bytes = bytes }
 
+  map-zones : ZonesPieces (geometryOf m) 0 ess × (length ess ≡ length (blocksOf (geometryOf m) m))
+  map-zones =
+      let g = geometryOf m in
+      zones-pieces g map-geometry 0 (blocksOf g m) ess (sized-blocks (g .sector) (g .zones) m (tests .whole)) (tests .zones)
+
+  pub map-count : length ess ≡ (geometryOf m) .zones
+  map-count = let g = geometryOf m in map-zones .1 ∙ length-blocks (g .sector) (g .zones) m
+
+  pub map-pieces-found : ZonesPieces (geometryOf m) 0 ess
+  map-pieces-found = map-zones .0
+
+  pub map-disc : AcceptedDisc (geometryOf m) (discOf m ess)
+  map-disc =
+      let g = geometryOf m in
+      record {
+        pieces = pieces-found g map-geometry ess map-count map-pieces-found;
+        count = length-map (blocksOf g m) crossOf ∙ length-blocks (g .sector) (g .zones) m;
+        sum = tests .sum;
+        bytes = crosses-of-bytes (blocksOf g m) map-each-bytes;
+      }
+
   module _ (apart : touching 0 ess ≡ none) where
     pub map-found : ZonesFound (geometryOf m) 0 (blocksOf (geometryOf m) m) ess
     map-found =
@@ -118,19 +145,9 @@ module _ (m : List ℕ) (ess : List (List Entry)) (bytes : Bytes m) (accepted : 
         zones-found g map-geometry 0 0 0 (blocksOf g m) ess (sized-blocks (g .sector) (g .zones) m (tests .whole)) map-each-bytes
         (tests .checks) (tests .zones) apart
 
-    pub map-disc : AcceptedDisc (geometryOf m) (discOf m ess)
-    map-disc =
-        let g = geometryOf m in
-        record {
-          pieces = pieces-found g map-geometry (blocksOf g m) ess (length-blocks (g .sector) (g .zones) m) map-found;
-          count = length-map (blocksOf g m) crossOf ∙ length-blocks (g .sector) (g .zones) m;
-          sum = tests .sum;
-          bytes = crosses-of-bytes (blocksOf g m) map-each-bytes;
-        }
-
     -- it is as it would be written
     pub map-as-written : writtenMap (geometryOf m) m (discOf m ess) ≡ m
     map-as-written =
         let g = geometryOf m in
-        ap flat (as-read g map-geometry (piecesOfZones g 0 ess) 0 (blocksOf g m) ess map-found (zone-pieces g 0 (blocksOf g m) ess map-found))
+        ap flat (as-read g map-geometry (piecesOfZones g 0 ess) 0 (blocksOf g m) ess map-found (λ i h. zone-pieces g 0 ess map-pieces-found i (omega (arith, map-zones .1))))
         ∙ flat-blocks (g .sector) (g .zones) m (tests .whole)

@@ -25,7 +25,7 @@ abbrev pub oneFromEnd : ℕ → ℕ → ℕ → List Piece → Bool
 oneFromEnd d at end [] = gapEndsBy d at end
 oneFromEnd d at end (p ∷ ps) = gapEndsBy d at (p .at .start) && (eqb (p .owner) 1 || leb (p .at .start + p .at .len) d) && oneFromEnd d (p .at .start + p .at .len) end ps
 
-ends-join : (d a at end : ℕ) → (a ≡ at) ⊎ (at ≤ d) → gapEndsBy d at end ≡ true → gapEndsBy d a end ≡ true
+pub ends-join : (d a at end : ℕ) → (a ≡ at) ⊎ (at ≤ d) → gapEndsBy d at end ≡ true → gapEndsBy d a end ≡ true
 ends-join d a at end c h = go c (either (eqb at end) (leb end d) h)
   where
     go : (a ≡ at) ⊎ (at ≤ d) → (eqb at end ≡ true) ⊎ (leb end d ≡ true) → gapEndsBy d a end ≡ true

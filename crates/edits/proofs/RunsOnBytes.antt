@@ -51,13 +51,13 @@ module _ (m : List ℕ) (ess : List (List Entry)) (bytes : Bytes m) (accepted : 
   pub run-bytes : (cs : List Call) → steps m cs ≡ flat (rewritten (geometryOf m) (blocksOf (geometryOf m) m) (run (geometryOf m) (discOf m ess) cs))
   run-bytes cs =
       ap (λ (x : List ℕ). steps x cs) (sym (map-as-written m ess bytes accepted apart))
-      ∙ steps-new (geometryOf m) m (map-of m ess bytes accepted) (discOf m ess) cs (map-disc m ess bytes accepted apart)
+      ∙ steps-new (geometryOf m) m (map-of m ess bytes accepted) (discOf m ess) cs (map-disc m ess bytes accepted)
 
   -- a run undone last first leaves every byte as it was
   pub undone-bytes : (cs : List Call) → Undone (edits (geometryOf m) (discOf m ess) cs) → steps m cs ≡ m
   undone-bytes cs u =
       run-bytes cs
-      ∙ ap (writtenMap (geometryOf m) m) (run-undone (geometryOf m) (discOf m ess) cs (map-geometry m ess bytes accepted) (map-disc m ess bytes accepted apart .pieces .fit) u)
+      ∙ ap (writtenMap (geometryOf m) m) (run-undone (geometryOf m) (discOf m ess) cs (map-geometry m ess bytes accepted) (map-disc m ess bytes accepted .pieces .fit) u)
       ∙ map-as-written m ess bytes accepted apart
 
   -- after every run the map is accepted again, with the pieces and cross checks that the run leaves
@@ -66,7 +66,7 @@ module _ (m : List ℕ) (ess : List (List Entry)) (bytes : Bytes m) (accepted : 
       let g = geometryOf m in
       let s = run g (discOf m ess) cs in
       let t = map-of m ess bytes accepted in
-      let h = disc-run g (map-geometry m ess bytes accepted) (discOf m ess) cs (map-disc m ess bytes accepted apart) in
+      let h = disc-run g (map-geometry m ess bytes accepted) (discOf m ess) cs (map-disc m ess bytes accepted) in
       subst⁻¹ (ReadsAs g s) (run-bytes cs) (drawnZones g 0 (g .zones) (s .pieces), read-new g m t s h, none-touching g 0 (g .zones) (s .pieces) 0, disc-new g m t s h, geometry-new g m t s h)
 
   pub length-kept : (cs : List Call) → length (steps m cs) ≡ length m
@@ -78,7 +78,7 @@ module _ (m : List ℕ) (ess : List (List Entry)) (bytes : Bytes m) (accepted : 
   bytes-kept cs =
       let g = geometryOf m in
       subst⁻¹ Bytes (run-bytes cs)
-      (bytes-new g m (map-of m ess bytes accepted) (run g (discOf m ess) cs) (disc-run g (map-geometry m ess bytes accepted) (discOf m ess) cs (map-disc m ess bytes accepted apart)))
+      (bytes-new g m (map-of m ess bytes accepted) (run g (discOf m ess) cs) (disc-run g (map-geometry m ess bytes accepted) (discOf m ess) cs (map-disc m ess bytes accepted)))
 
   -- one call that is refused leaves every byte
   pub step-refused : (c : Call) (n z : ℕ) → judge (geometryOf m) ((discOf m ess) .pieces) c ≡ refused n z → (outcome m c ≡ refused n z) × (step m c ≡ m)

@@ -29,7 +29,7 @@ use Rattle.edits.proofs.ZoneFound.{ZoneFound}
 use Rattle.edits.proofs.MapFound.{found-at, zone-pieces, zone-as-written}
 use Rattle.edits.proofs.DiscKept.{disc-run}
 use Rattle.edits.proofs.StepWritten.{block-new}
-use Rattle.edits.proofs.MapAccepted.{map-geometry, map-of, map-found, map-disc}
+use Rattle.edits.proofs.MapAccepted.{map-geometry, map-of, map-count, map-pieces-found, map-found, map-disc}
 use Rattle.edits.proofs.ZonesTouched.{untouched-pieces, untouched-cross}
 use Rattle.edits.proofs.RunsOnBytes.{run-bytes}
 
@@ -58,7 +58,7 @@ module _ (m : List ℕ) (ess : List (List Entry)) (bytes : Bytes m) (accepted : 
   pub zone-pieces-at : (z : ℕ) → z < (geometryOf m) .zones → inZone (geometryOf m) z ((discOf m ess) .pieces) ≡ map (pieceToDisc (geometryOf m) z) (ownedOf (getD ess z []))
   zone-pieces-at z h =
       subst (λ (i : ℕ). inZone g i (s .pieces) ≡ map (pieceToDisc g i) (ownedOf (getD ess z []))) (zero-add z)
-      (zone-pieces g 0 (blocksOf g m) ess (map-found m ess bytes accepted apart) z (in-blocks z h))
+      (zone-pieces g 0 ess (map-pieces-found m ess bytes accepted) z (omega (arith, map-count m ess bytes accepted)))
 
   pub zone-cross-at : (z : ℕ) → z < (geometryOf m) .zones → getD ((discOf m ess) .cross) z 0 ≡ crossOf (blockAt ((geometryOf m) .sector) z m)
   zone-cross-at z h = List·getD-map crossOf (blocksOf g m) z [] ∙ ap crossOf (block-is z h)
@@ -70,7 +70,7 @@ module _ (m : List ℕ) (ess : List (List Entry)) (bytes : Bytes m) (accepted : 
       (getD ((run (geometryOf m) (discOf m ess) cs) .cross) z 0) (blockAt ((geometryOf m) .sector) z m)
   zone-after cs z h =
       ap (blockAt (g .sector) z) (run-bytes m ess bytes accepted apart cs)
-      ∙ block-new g m (map-of m ess bytes accepted) (run g s cs) z (disc-run g (map-geometry m ess bytes accepted) s cs (map-disc m ess bytes accepted apart) .count) h
+      ∙ block-new g m (map-of m ess bytes accepted) (run g s cs) z (disc-run g (map-geometry m ess bytes accepted) s cs (map-disc m ess bytes accepted) .count) h
 
   -- after one call that is accepted
   module _ (c : Call) (e : Edit) (v : judge (geometryOf m) ((discOf m ess) .pieces) c ≡ answered e) (z : ℕ) (h : z < (geometryOf m) .zones) where
@@ -85,7 +85,7 @@ module _ (m : List ℕ) (ess : List (List Entry)) (bytes : Bytes m) (accepted : 
     pub zone-untouched : touches (geometryOf m) z (pairsIn e) ≡ false → blockAt ((geometryOf m) .sector) z (step m c) ≡ blockAt ((geometryOf m) .sector) z m
     zone-untouched t =
         let ok = map-geometry m ess bytes accepted in
-        let d = map-disc m ess bytes accepted apart in
+        let d = map-disc m ess bytes accepted in
         let a = allowed g (s .pieces) c e ok (d .pieces .fit) v .0 in
         zone-edited
         ∙ ap₂ (λ (l : List Piece) (x : ℕ). written (g .idlen) (firstBit z) (endBit g) (map (toBlock g z) l) x (block z)) (untouched-pieces g z s e a t) (untouched-cross g z s e (d .count) h t ∙ zone-cross-at z h)

@@ -58,7 +58,7 @@ module _ {m : List ℕ} (e : EditableMap m (geometryOf m)) (c : Call) (k : Edit)
   cross-is : (z : ℕ) → z < (geometryOf m) .zones → getD ((edit (geometryOf m) k (discOf m (zonesOf m))) .cross) z 0 ≡ bitXor (crossOf (zoneBlock (geometryOf m) m z)) (changeAt (geometryOf m) (pairsIn k) z)
   cross-is z h =
       ap (λ (cs : List ℕ). getD cs z 0) (cross-edit g k s)
-      ∙ crossed-at g (pairsIn k) (s .cross) z (map-disc m (zonesOf m) (d .bytes) (d .accepted) (d .apart) .count) h
+      ∙ crossed-at g (pairsIn k) (s .cross) z (map-disc m (zonesOf m) (d .bytes) (d .accepted) .count) h
       ∙ ap (λ (x : ℕ). bitXor x (changeAt g (pairsIn k) z)) (zone-cross-at m (zonesOf m) (d .bytes) (d .accepted) (d .apart) z h)
 
   zones-of-map : EditedZones m (geometryOf m) k (bytesAfter m (answered k))

@@ -40,3 +40,15 @@ none-left at next es e =
     by-test (eqb next 0)
     (λ h. (eqb-true next 0 h, sym (some-some (simp h at e))))
     (λ h. absurd (none-some (simp h at e)))
+
+-- what holds of the entries that come of following, fragment by fragment
+pub by-following : (P : ℕ → List Fragment → List Entry → Type 0) → ((at : ℕ) → P at [] [])
+    → ((at : ℕ) (f : Fragment) (fs : List Fragment) (es : List Entry) → P (at + f .len) fs es → P at (f ∷ fs) (entry at f free ∷ es))
+    → ((at : ℕ) (f : Fragment) (fs : List Fragment) (es : List Entry) → P (at + f .len) fs es → P at (f ∷ fs) (entry at f (owned (f .id)) ∷ es))
+    → (at next : ℕ) (fs : List Fragment) (es : List Entry) → follow at next fs ≡ some es → P at fs es
+by-following P base one two at next [] es e = subst⁻¹ (P at []) (none-left at next es e .1) (base at)
+by-following P base one two at next (f ∷ fs) es e = go es (followed at next f fs es e) (λ n gs k. by-following P base one two (at + f .len) n fs gs k)
+  where
+    go : (es : List Entry) → Followed at next f fs es → ((n : ℕ) (gs : List Entry) → follow (at + f .len) n fs ≡ some gs → P (at + f .len) fs gs) → P at (f ∷ fs) es
+    go es (was-free gs h k) ih = one at f fs gs (ih (onward at (f .id)) gs k)
+    go es (was-owned gs h k) ih = two at f fs gs (ih next gs k)

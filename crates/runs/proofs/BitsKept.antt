@@ -72,7 +72,7 @@ module _ (m : List ℕ) (ess : List (List Entry)) (bytes : Bytes m) (accepted : 
       let g = geometryOf m in
       let ok = map-geometry m ess bytes accepted in
       let s = run g (discOf m ess) cs in
-      let fit = disc-run g ok (discOf m ess) cs (map-disc m ess bytes accepted apart) .pieces .fit in
+      let fit = disc-run g ok (discOf m ess) cs (map-disc m ess bytes accepted) .pieces .fit in
       ap (λ (b : List ℕ). getD (byteBits b) k false) (zone-after m ess bytes accepted apart cs z h)
       ∙ written-outside (g .idlen) (firstBit z) (endBit g) (blockAt (g .sector) z m) (zone-at m ess bytes accepted apart z h .block .bits)
       (map (toBlock g z) (inZone g z (s .pieces))) (zone-drawable g (s .pieces) z ok fit h) (getD (s .cross) z 0) k lo o

@@ -132,7 +132,7 @@ claim-rules m ed size id h i e =
     let ids = g .ids * g .zones - 3 in
     let hs = holesFrom g 0 (g .zones) l in
     let ok = map-geometry m (zonesOf m) (ed .bytes) (ed .accepted) in
-    let fit = map-disc m (zonesOf m) (ed .bytes) (ed .accepted) (ed .apart) .pieces .fit in
+    let fit = map-disc m (zonesOf m) (ed .bytes) (ed .accepted) .pieces .fit in
     let up : Ascends (zoneFrom g 0) hs = all-holes-ascend g l ok fit 0 (g .zones) (omega arith) in
     let k = first-in n hs h e in
     record {

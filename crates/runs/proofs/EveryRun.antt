@@ -48,7 +48,7 @@ module _ (m : List ℕ) (ed : Editable m) where
   ok = map-geometry m (zonesOf m) (ed .bytes) (ed .accepted)
 
   fit : FitPieces (geometryOf m) ((discOf m (zonesOf m)) .pieces)
-  fit = map-disc m (zonesOf m) (ed .bytes) (ed .accepted) (ed .apart) .pieces .fit
+  fit = map-disc m (zonesOf m) (ed .bytes) (ed .accepted) .pieces .fit
 
   run-reads : (cs : List Call) → ReadsAs (geometryOf m) (run (geometryOf m) (discOf m (zonesOf m)) cs) (steps m cs)
   run-reads cs = run-kept m (zonesOf m) (ed .bytes) (ed .accepted) (ed .apart) cs

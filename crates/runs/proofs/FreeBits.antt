@@ -252,7 +252,7 @@ module _ (g : Geometry) (s : Disc) (ok : AcceptedGeometry g) (fit : FitPieces g 
 pub map-free : (m : List ℕ) → Editable m → (d : ℕ) → InSome (spansOn m) d ↔ ((d < discBits (geometryOf m)) × NoneHas (piecesOn (geometryOf m) m) d)
 map-free m ed d =
     let ok = map-geometry m (zonesOf m) (ed .bytes) (ed .accepted) in
-    let fit = map-disc m (zonesOf m) (ed .bytes) (ed .accepted) (ed .apart) .pieces .fit in
+    let fit = map-disc m (zonesOf m) (ed .bytes) (ed .accepted) .pieces .fit in
     subst⁻¹ (λ (qs : List Pair). InSome qs d ↔ ((d < discBits (geometryOf m)) × NoneHas (piecesOn (geometryOf m) m) d)) (spans-holes m ed)
     (free-bit (geometryOf m) (piecesOn (geometryOf m) m) ok fit d)
 
@@ -263,7 +263,7 @@ pub free-after : (m after : List ℕ) → Editable m → Editable after → geom
 free-after m after ed again disc e a pieces d =
     let g = geometryOf m in
     let ok = map-geometry m (zonesOf m) (ed .bytes) (ed .accepted) in
-    let fit = map-disc m (zonesOf m) (ed .bytes) (ed .accepted) (ed .apart) .pieces .fit in
+    let fit = map-disc m (zonesOf m) (ed .bytes) (ed .accepted) .pieces .fit in
     let new = subst (λ (l : List Piece). InSome (spansOn after) d ↔ FreeOf g l d) pieces
     (subst (λ (x : Geometry). InSome (spansOn after) d ↔ FreeOf x (piecesOn (geometryOf after) after) d) disc (map-free after again d)) in
     let moved = edit-frees g (discOf m (zonesOf m)) ok fit d e a in

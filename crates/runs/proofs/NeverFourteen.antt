@@ -26,7 +26,7 @@ never-fourteen m bytes c z h = by-reading (mapRead m) refl h
     by-pairs ess a (some y) t h = omega (arith, same-number h)
     by-pairs ess a none t h =
         let l = (discOf m ess) .pieces in
-        onPieces.never-fourteen (geometryOf m) l c (map-geometry m ess bytes a) (map-disc m ess bytes a t .pieces .fit) h
+        onPieces.never-fourteen (geometryOf m) l c (map-geometry m ess bytes a) (map-disc m ess bytes a .pieces .fit) h
 
     by-number : (ess : List (List Entry)) → mapRead m ≡ answered ess → (b : Bool)
         → unless b 8 (byTouching (touching 0 ess) (judgeRest (geometryOf m) ((discOf m ess) .pieces) c)) ≡ refused 14 z → ⊥

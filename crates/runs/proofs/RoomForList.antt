@@ -158,7 +158,7 @@ module _ (m : List ℕ) (ed : Editable m) (id : ℕ) (list : List ℕ) (k : pair
   ok = map-geometry m (zonesOf m) (ed .bytes) (ed .accepted)
 
   fit : FitPieces (geometryOf m) (piecesOn (geometryOf m) m)
-  fit = map-disc m (zonesOf m) (ed .bytes) (ed .accepted) (ed .apart) .pieces .fit
+  fit = map-disc m (zonesOf m) (ed .bytes) (ed .accepted) .pieces .fit
 
   -- zone z's pieces after the place, and its holes
   abbrev after : ℕ → List Piece

@@ -56,7 +56,7 @@ module _ (m : List ℕ) (ed : Editable m) where
   ok = map-geometry m (zonesOf m) (ed .bytes) (ed .accepted)
 
   pieces-ok : AcceptedPieces (geometryOf m) ((discOf m (zonesOf m)) .pieces)
-  pieces-ok = map-disc m (zonesOf m) (ed .bytes) (ed .accepted) (ed .apart) .pieces
+  pieces-ok = map-disc m (zonesOf m) (ed .bytes) (ed .accepted) .pieces
 
   pub verdict : (c : Call) (e : Edit) → Accepted m c e → judge (geometryOf m) ((discOf m (zonesOf m)) .pieces) c ≡ answered e
   verdict c e a = judged-done m (zonesOf m) (ed .accepted) (ed .apart) c e a
