@@ -1,5 +1,5 @@
--- The lines of document 01's table for the call `address` ("Numbered refusals"), in its order, each with its sentence, and the value: where
--- the byte lies. They speak of the object's pairs as `list` shows them; `AddressLaws` has that the call answers them and nothing
+-- The lines of document 01's table for the call `address` ("Numbered refusals"), in its order, and the value: where the byte lies. The
+-- sentence of 10 stands in `model/Refusals`. They speak of the object's pairs as `list` shows them; `AddressLaws` has that the call answers them and nothing
 -- else. Assumes nothing.
 use mathlib.Core.List.{List, [], _∷_, _++_}
 use mathlib.Core.Logic.{_⊎_}

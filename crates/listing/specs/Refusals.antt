@@ -1,5 +1,5 @@
--- The lines of document 01's table for the two listing calls ("Numbered refusals"), in its order, each with its sentence. They speak of
--- the lists that an accepted map shows; `ListingLaws` has that the calls answer them and nothing else. Assumes nothing.
+-- The lines of document 01's table for the two listing calls ("Numbered refusals"), in its order; their sentences stand in
+-- `model/Refusals`. They speak of the lists that an accepted map shows; `ListingLaws` has that the calls answer them and nothing else. Assumes nothing.
 use mathlib.Core.List.{List, [], _∷_}
 use Prim.Native.Nat.{ℕ}
 use Rattle.model.specs.Shown.{listedOn, spansOn}

@@ -1,5 +1,5 @@
--- The lines of document 01's table for the two sweeps ("Numbered refusals"), in its order, each with its sentence. `SweepLaws` has that
--- the sweeps answer them and nothing else. Assumes nothing.
+-- The lines of document 01's table for the two sweeps ("Numbered refusals"), in its order; the sentences of 8 and 10 stand in
+-- `model/Refusals`. `SweepLaws` has that the sweeps answer them and nothing else. Assumes nothing.
 use mathlib.Core.List.{List, [], _∷_}
 use Prim.Native.Nat.{ℕ, _+_, _<_}
 use Rattle.geometry.specs.Record.{geometryOf}
