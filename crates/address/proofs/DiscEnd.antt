@@ -71,33 +71,33 @@ ends-fit g z b es e =
     both (every (idFits g) es) (every (endFits g z) es) (p .0) .1
 
 module _ {m : List ℕ} {g : Geometry} (a : AcceptedMap m g) where
-  piece-ends : (z : ℕ) (h : Holder) (q : Pair) (ps : List Piece) → firstBit z ≤ q .start → (isOwned 1 h || leb (discBit g z (q .start + q .len)) (g .end)) ≡ true
-      → OthersEndBy (g .end) (map (pieceToDisc g z) ps) → OthersEndBy (g .end) (map (pieceToDisc g z) (ownedIf h q ps))
+  piece-ends : (z : ℕ) (h : Holder) (q : Pair) (ps : List Piece) → firstBit z ≤ q .start → (isOwned 1 h || leb (discBit g z (q .start + q .len)) (g .end .0)) ≡ true
+      → OthersEndBy (g .end .0) (map (pieceToDisc g z) ps) → OthersEndBy (g .end .0) (map (pieceToDisc g z) (ownedIf h q ps))
   piece-ends z free q ps l t k = k
-  piece-ends z (owned o) q ps l t k = (go (either (eqb o 1) (leb (discBit g z (q .start + q .len)) (g .end)) t), k)
+  piece-ends z (owned o) q ps l t k = (go (either (eqb o 1) (leb (discBit g z (q .start + q .len)) (g .end .0)) t), k)
     where
-      go : (eqb o 1 ≡ true) ⊎ (leb (discBit g z (q .start + q .len)) (g .end) ≡ true) → (o ≡ 1 → ⊥) → discBit g z (q .start) + q .len ≤ g .end
+      go : (eqb o 1 ≡ true) ⊎ (leb (discBit g z (q .start + q .len)) (g .end .0) ≡ true) → (o ≡ 1 → ⊥) → discBit g z (q .start) + q .len ≤ g .end .0
       go (inl u) n = absurd (n (eqb-true o 1 u))
-      go (inr u) n = omega (arith, leb-true (discBit g z (q .start + q .len)) (g .end) u, from-zero-on g (a .readable .numbers) z (q .start) l)
+      go (inr u) n = omega (arith, leb-true (discBit g z (q .start + q .len)) (g .end .0) u, from-zero-on g (a .readable .numbers) z (q .start) l)
 
-  zone-ends : (z from : ℕ) (es : List Entry) → firstBit z ≤ from → Fills from (endBit g) es → every (endFits g z) es ≡ true → OthersEndBy (g .end) (map (pieceToDisc g z) (ownedOf es))
+  zone-ends : (z from : ℕ) (es : List Entry) → firstBit z ≤ from → Fills from (endBit g) es → every (endFits g z) es ≡ true → OthersEndBy (g .end .0) (map (pieceToDisc g z) (ownedOf es))
   zone-ends z from [] l f t = tt
   zone-ends z from (e ∷ es) l f t =
       let k = both (endFits g z e) (every (endFits g z) es) t in
       piece-ends z (e .holder) (e .at) (ownedOf es) (omega (arith, f .0)) (k .0) (zone-ends z (from + e .at .len) es (omega arith) (f .2) (k .1))
 
-  zones-end : (z : ℕ) (ess : List (List Entry)) → ReadInTurn m g z ess → OthersEndBy (g .end) (piecesOfZones g z ess)
+  zones-end : (z : ℕ) (ess : List (List Entry)) → ReadInTurn m g z ess → OthersEndBy (g .end .0) (piecesOfZones g z ess)
   zones-end z [] r = tt
   zones-end z (es ∷ ess) r =
-      others-append (g .end) (map (pieceToDisc g z) (ownedOf es)) (piecesOfZones g (suc z) ess)
+      others-append (g .end .0) (map (pieceToDisc g z) (ownedOf es)) (piecesOfZones g (suc z) ess)
       (zone-ends z (firstBit z) es (omega arith) (entries-fill a z es (r .0) (r .1)) (ends-fit g z (zoneBlock g m z) es (r .1)))
       (zones-end (suc z) ess (r .2))
 
   pub object-on-disc : (id i x : ℕ) → (id ≡ 1 → ⊥) → seek (g .unit) (objectPairs g id (piecesOfZones g 0 (a .zones))) i ≡ at x → x < g .size
   object-on-disc id i x n e =
       let ps : List Piece = piecesOf id (piecesOfZones g 0 (a .zones)) in
-      let k : EndBy (g .end) ps = object-ends (g .end) id (piecesOfZones g 0 (a .zones)) n (zones-end 0 (a .zones) (zones-in-turn a)) in
-      let b = seek-below (g .unit) (g .end) (keep (late g id) ps ++ keep (λ p. not (late g id p)) ps)
-      (end-append (g .end) (keep (late g id) ps) (keep (λ p. not (late g id p)) ps) (end-keep (g .end) (late g id) ps k) (end-keep (g .end) (λ p. not (late g id p)) ps k)) i x e in
-      let u : g .end * g .unit ≡ g .size / g .unit * g .unit = ap (λ (y : ℕ). y * g .unit) (a .readable .numbers .end-is) in
+      let k : EndBy (g .end .0) ps = object-ends (g .end .0) id (piecesOfZones g 0 (a .zones)) n (zones-end 0 (a .zones) (zones-in-turn a)) in
+      let b = seek-below (g .unit) (g .end .0) (keep (late g id) ps ++ keep (λ p. not (late g id p)) ps)
+      (end-append (g .end .0) (keep (late g id) ps) (keep (λ p. not (late g id p)) ps) (end-keep (g .end .0) (late g id) ps k) (end-keep (g .end .0) (λ p. not (late g id p)) ps k)) i x e in
+      let u : g .end .0 * g .unit ≡ g .size / g .unit * g .unit = ap (λ (y : ℕ). y * g .unit) (a .readable .numbers .end-is) in
       omega (arith, div-mul-le-self (g .size) (g .unit))

@@ -1,15 +1,15 @@
 // The disc address of a byte of a file (document 01, "The calls").
+use geometry::DiscBit;
 use geometry::Geometry;
 use geometry::Refusal;
 use geometry::Start;
 use geometry::refuse;
 use map::Checked;
 ghost use mathlib.Core.Path.{_≡_};
-ghost use mathlib.Core.List.{_++_};
-ghost use Prim.Native.Nat.{_-_, _<_, _≤_};
+ghost use Prim.Native.Nat.{_<_, _≤_};
 ghost use Rattle.geometry.specs.Accepted.{AcceptedGeometry};
 ghost use Rattle.map.specs.Accepted.{AcceptedMap};
-ghost use Rattle.walk.specs.HeldBy.{pairIf, heldFrom};
+ghost use Rattle.walk.specs.HeldBy.{pairIf, heldBetween, heldInOrder};
 ghost use Rattle.address.specs.Address.{startOffset, seek, seekOf, within, addressFound, addressAnswer, Reaches};
 ghost use Rattle.address.specs.Laws.{AddressLaws};
 
@@ -61,7 +61,7 @@ fn address_in(map: &[u8], g: Geometry, n: u32, position: u64) -> Reached
 // Byte i of an object, from its start zone on and then in the zones before it.
 fn seek_object(map: &[u8], g: Geometry, id: u32, start: usize, i: usize) -> Reached
     requires { ⌜ AcceptedMap (now map) g × (start ≤ g .zones) ⌝ }
-    ensures { λ r. ⌜ r ≡ addressAnswer (within (seek (g .unit) (heldFrom g id (now (map .entry)) start (g .zones - start) ++ heldFrom g id (now (map .entry)) 0 start) i)) ⌝ }
+    ensures { λ r. ⌜ r ≡ addressAnswer (within (seek (g .unit) (heldInOrder g id (now (map .entry)) start) i)) ⌝ }
 {
     let zones = g.zones;
     match seek_held(map, g, id, start, zones, i) {
@@ -94,7 +94,7 @@ enum Seek {
 // Byte i of a holder's fragments in zones `from` to `to`, joined.
 fn seek_held(map: &[u8], g: Geometry, holder: u32, from: usize, to: usize, i: usize) -> Seek
     requires { ⌜ AcceptedMap (now map) g × (from ≤ to) × (to ≤ g .zones) ⌝ }
-    ensures { λ r. ⌜ r ≡ seekOf (seek (g .unit) (heldFrom g holder (now (map .entry)) from (to - from)) i) ⌝ }
+    ensures { λ r. ⌜ r ≡ seekOf (seek (g .unit) (heldBetween g holder (now (map .entry)) from to) i) ⌝ }
 {
     let unit = g.unit;
     let mut left = i;
@@ -116,14 +116,14 @@ fn seek_held(map: &[u8], g: Geometry, holder: u32, from: usize, to: usize, i: us
 }
 
 // Byte i of a pair that is wanted; one that is not has no bytes.
-fn seek_line(wanted: bool, start: u32, len: u32, unit: usize, i: usize) -> Seek
+fn seek_line(wanted: bool, start: DiscBit, len: u32, unit: usize, i: usize) -> Seek
     requires { ⌜ unit ≤ 4096 ⌝ }
-    ensures { λ r. ⌜ r ≡ seekOf (seek unit (pairIf wanted start len) i) ⌝ }
+    ensures { λ r. ⌜ r ≡ seekOf (seek unit (pairIf wanted (start .0) len) i) ⌝ }
 {
     let bytes = len as usize * unit;
     if wanted {
         if i < bytes {
-            return Seek::At(start as usize * unit + i);
+            return Seek::At(start.0 as usize * unit + i);
         }
         return Seek::Past(i - bytes);
     }

@@ -87,7 +87,9 @@ struct Part {
 fn write_some(s: &mut [u8], b: usize, n: usize, w: u32) -> Part
     requires { ⌜ (0 < n) × (b + n ≤ length (now s) * 8) × (b + n < 2 ^ 64) ⌝ }
     ensures room { λ r. ⌜ (0 < r .bits) × (r .bits ≤ n) ⌝ }
-    ensures bits { λ r. ⌜ sets (byteBits (now (s .exit))) (b + r .bits) (numberBits (n - r .bits) (r .left)) ≡ sets (byteBits (now (s .entry))) b (numberBits n w) ⌝ }
+    ensures bits { λ r.
+        ⌜ sets (byteBits (now (s .exit))) (b + r .bits) (numberBits (n - r .bits) (r .left))
+        ≡ sets (byteBits (now (s .entry))) b (numberBits n w) ⌝ }
 {
     if both(b % 8 == 0, 8 <= n) {
         s[b / 8] = (w % 256) as u8;

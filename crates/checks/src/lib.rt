@@ -38,7 +38,10 @@ pub fn zone_check(block: &[u8]) -> u8
 // The word at byte i.
 fn word_at(s: &[u8], i: usize) -> usize
     requires { ⌜ i + 4 ≤ length (now s) ⌝ }
-    ensures { λ r. ⌜ (r ≡ word (getD (now (s .entry)) i 0) (getD (now (s .entry)) (i + 1) 0) (getD (now (s .entry)) (i + 2) 0) (getD (now (s .entry)) (i + 3) 0)) × (r < 2 ^ 32) ⌝ }
+    ensures value { λ r.
+        ⌜ r ≡ word (getD (now (s .entry)) i 0) (getD (now (s .entry)) (i + 1) 0)
+        (getD (now (s .entry)) (i + 2) 0) (getD (now (s .entry)) (i + 3) 0) ⌝ }
+    ensures high { λ r. ⌜ r < 2 ^ 32 ⌝ }
 {
     bits::wide(s[i])
         + bits::wide(s[i + 1]) * 256

@@ -9,6 +9,7 @@ use native.Mathlib.Omega.{arith}
 use lib.Dec.{ltb}
 use borrow.Author.Tests.{lt-ltb, le-ltb}
 use Rattle.geometry.specs.declared.Geometry.{Geometry}
+use Rattle.geometry.specs.declared.DiscBit.{DiscBit}
 use Rattle.geometry.specs.declared.Refusal.{Refusal}
 use Rattle.geometry.specs.Answers.{refusal}
 use Rattle.model.specs.Chain.{Pair, pair, touching}
@@ -77,10 +78,10 @@ module _ {m : List ℕ} {g : Geometry} (ed : EditableMap m g) (size : ℕ) where
         go none e = absurd (no-fourteen g (piecesOn g m) (ed .accepted .readable .numbers) (map-pieces ed .fit) e)
         go (some id) e = by-found (some id) none e eh
 
-    pub piece-chosen : (start hole id len : ℕ) → firstHole bits (heldFrom g 0 m 0 (g .zones)) ≡ some (pair start hole) → lowest (piecesOn g m) (g .ids * g .zones - 3) 3 ≡ some id
+    pub piece-chosen : (start : DiscBit) (hole id len : ℕ) → firstHole bits (heldFrom g 0 m 0 (g .zones)) ≡ some (pair (start .0) hole) → lowest (piecesOn g m) (g .ids * g .zones - 3) 3 ≡ some id
         → len ≡ cond (ltb hole (bits + g .shortest)) hole bits → claimed.Piece id start len ≡ choiceAnswer (chosen g (piecesOn g m) size)
     piece-chosen start hole id len eh ei el =
-        ap (λ (n : ℕ). choiceAnswer (answered (choice id (pair start n ∷ [])))) el ∙ ap choiceAnswer (sym (by-found (some id) (some (pair start hole)) ei eh))
+        ap (λ (n : ℕ). choiceAnswer (answered (choice id (pair (start .0) n ∷ [])))) el ∙ ap choiceAnswer (sym (by-found (some id) (some (pair (start .0) hole)) ei eh))
 
   -- what the choice answers is the claim's answer
   module _ (some-bytes : 0 < size) (r : Claimed) (told : r ≡ choiceAnswer (chosen g (piecesOn g m) size)) where
@@ -94,31 +95,32 @@ module _ {m : List ℕ} {g : Geometry} (ed : EditableMap m g) (size : ℕ) where
         go (refused k z) ec h = subst (λ (x : Claimed). Claims m size x m) h (claims m size (refused k z) (judged-told ed (claim size) (refused k z) (judged-chosen ∙ ap byChoice ec)))
         go (answered c) ec h = let x : _≡_ {A = ℕ} 0 1 = cc in absurd (omega arith)
 
-    module _ (id start len : ℕ) (e : r ≡ claimed.Piece id start len) where
-      picked : chosen g (piecesOn g m) size ≡ answered (choice id (pair start len ∷ []))
+    module _ (id : ℕ) (start : DiscBit) (len : ℕ) (e : r ≡ claimed.Piece id start len) where
+      picked : chosen g (piecesOn g m) size ≡ answered (choice id (pair (start .0) len ∷ []))
       picked = go (chosen g (piecesOn g m) size) refl (sym told ∙ e)
         where
-          go : (c : Answer Choice) → chosen g (piecesOn g m) size ≡ c → choiceAnswer c ≡ claimed.Piece id start len → chosen g (piecesOn g m) size ≡ answered (choice id (pair start len ∷ []))
+          go : (c : Answer Choice) → chosen g (piecesOn g m) size ≡ c → choiceAnswer c ≡ claimed.Piece id start len → chosen g (piecesOn g m) size ≡ answered (choice id (pair (start .0) len ∷ []))
           go (refused k z) ec h = let x : _≡_ {A = ℕ} 0 1 = cc in absurd (omega arith)
           go (answered c) ec h =
               let p = chosen-parts g (piecesOn g m) size (c .id) (c .pairs) ec in
               let q = taken (g .shortest) (need g size) (p .0) in
               let ei : c .id ≡ id = cc in
-              let es : q .start ≡ start = ap (λ (x : List Pair). firstPair x .start) (p .3) ∙ cc in
+              let eb : _≡_ {A = DiscBit} (record { 0 = firstPair (c .pairs) .start }) start = cc in
+              let es : q .start ≡ start .0 = ap (λ (x : List Pair). firstPair x .start) (p .3) ∙ ap (λ (b : DiscBit). b .0) eb in
               let en : q .len ≡ len = ap (λ (x : List Pair). firstPair x .len) (p .3) ∙ cc in
               ec ∙ (λ j. answered (choice (ei j) (sym (p .3) j))) ∙ (λ j. answered (choice id (record { start = es j; len = en j } ∷ [])))
 
-      claim-given : judge g (piecesOn g m) (claim size) ≡ answered (gives id (pair start len ∷ []))
+      claim-given : judge g (piecesOn g m) (claim size) ≡ answered (gives id (pair (start .0) len ∷ []))
       claim-given = judged-chosen ∙ ap byChoice picked
 
-      as-place : judge g (piecesOn g m) (place id (start ∷ len ∷ [])) ≡ answered (gives id (pair start len ∷ []))
-      as-place = given-placed g (ed .accepted .readable .numbers) (record { pieces = piecesOn g m; cross = [] }) (map-pieces ed) (claim size) id (pair start len ∷ []) claim-given
+      as-place : judge g (piecesOn g m) (place id (start .0 ∷ len ∷ [])) ≡ answered (gives id (pair (start .0) len ∷ []))
+      as-place = given-placed g (ed .accepted .readable .numbers) (record { pieces = piecesOn g m; cross = [] }) (map-pieces ed) (claim size) id (pair (start .0) len ∷ []) claim-given
 
-      pub piece-fits : PieceFits m g id start len
+      pub piece-fits : PieceFits m g id (start .0) len
       piece-fits = record { editable = ed; fits = as-place }
 
-      pub piece-claims : (after : List ℕ) → after ≡ step m (place id (start ∷ len ∷ [])) → Claims m size (claimed.Piece id start len) after
+      pub piece-claims : (after : List ℕ) → after ≡ step m (place id (start .0 ∷ len ∷ [])) → Claims m size (claimed.Piece id start len) after
       piece-claims after e =
-          let given = gives id (pair start len ∷ []) in
+          let given = gives id (pair (start .0) len ∷ []) in
           let o = judged-told ed (claim size) (answered given) claim-given in
-          record { answer = ap claimAnswer (sym o); numbers = ap claimTold (sym o); bytes = e ∙ ap (bytesAfter m) (judged-told ed (place id (start ∷ len ∷ [])) (answered given) as-place ∙ sym o) }
+          record { answer = ap claimAnswer (sym o); numbers = ap claimTold (sym o); bytes = e ∙ ap (bytesAfter m) (judged-told ed (place id (start .0 ∷ len ∷ [])) (answered given) as-place ∙ sym o) }

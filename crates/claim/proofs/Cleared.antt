@@ -63,7 +63,7 @@ module _ {m : List ℕ} {g : Geometry} (from to : ℕ) (old : List ℕ) where
   line-cleared {r = r} a k held bytes next room e so id l h =
       let rest = heldLines id (remaining m g (g .zones) (r .after)) in
       ap (λ (x : List Bool). getD x (id - from) false && isEmpty rest) e
-      ∙ line-bit from to id (r .line .holder) l h (byteBits bytes) (omega (arith, length-byte-bits bytes)) (r .line .start) (r .line .len) rest
+      ∙ line-bit from to id (r .line .holder) l h (byteBits bytes) (omega (arith, length-byte-bits bytes)) (r .line .start .0) (r .line .len) rest
       ∙ ap (λ (qs : List Pair). getD (byteBits bytes) (id - from) false && isEmpty qs) (sym (held-step id a (g .zones) (omega arith) k))
       ∙ so id l h
 

@@ -8,6 +8,7 @@ use Prim.Native.Nat.{ℕ, _<_, _≤_}
 use native.Mathlib.Omega.{arith}
 use lib.Dec.{eqb, leb}
 use Rattle.geometry.specs.declared.Geometry.{Geometry}
+use Rattle.geometry.specs.declared.DiscBit.{DiscBit}
 use Rattle.model.specs.Chain.{Pair}
 use Rattle.edits.specs.Judge.{firstHole}
 use Rattle.walk.specs.declared.Walk.{Walk}
@@ -23,10 +24,11 @@ pub no-hole : (o : Option Pair) → holeOf o ≡ found.None → o ≡ none
 no-hole none e = refl
 no-hole (some q) e = let x : _≡_ {A = ℕ} 0 1 = cc in absurd (omega arith)
 
-pub hole-at : (o : Option Pair) (s n : ℕ) → holeOf o ≡ found.At s n → o ≡ some (record { start = s; len = n })
+pub hole-at : (o : Option Pair) (s : DiscBit) (n : ℕ) → holeOf o ≡ found.At s n → o ≡ some (record { start = s .0; len = n })
 hole-at none s n e = let x : _≡_ {A = ℕ} 0 1 = cc in absurd (omega arith)
 hole-at (some q) s n e =
-    let es : q .start ≡ s = cc in
+    let eb : _≡_ {A = DiscBit} (record { 0 = q .start }) s = cc in
+    let es : q .start ≡ s .0 = ap (λ (b : DiscBit). b .0) eb in
     let en : q .len ≡ n = cc in
     λ i. some (record { start = es i; len = en i })
 
@@ -42,13 +44,13 @@ line-passed need false d n qs e = refl
 -- of the lines that remain for a walk
 module _ (need : ℕ) {m : List ℕ} {g : Geometry} {w : Walk} {r : Step} (a : Advances m g w r) (to : ℕ) (u : to ≤ g .zones) (k : w .zone < to) where
   pub hole-taken : eqb (r .line .holder) 0 && leb need (r .line .len) ≡ true
-      → firstHole need (heldLines 0 (remaining m g to w)) ≡ some (record { start = r .line .start; len = r .line .len })
+      → firstHole need (heldLines 0 (remaining m g to w)) ≡ some (record { start = r .line .start .0; len = r .line .len })
   hole-taken e =
       ap (firstHole need) (held-step 0 a to u k)
-      ∙ line-taken need (eqb (r .line .holder) 0) (r .line .start) (r .line .len) (heldLines 0 (remaining m g to (r .after))) e
+      ∙ line-taken need (eqb (r .line .holder) 0) (r .line .start .0) (r .line .len) (heldLines 0 (remaining m g to (r .after))) e
 
   pub hole-passed : eqb (r .line .holder) 0 && leb need (r .line .len) ≡ false
       → firstHole need (heldLines 0 (remaining m g to w)) ≡ firstHole need (heldLines 0 (remaining m g to (r .after)))
   hole-passed e =
       ap (firstHole need) (held-step 0 a to u k)
-      ∙ line-passed need (eqb (r .line .holder) 0) (r .line .start) (r .line .len) (heldLines 0 (remaining m g to (r .after))) e
+      ∙ line-passed need (eqb (r .line .holder) 0) (r .line .start .0) (r .line .len) (heldLines 0 (remaining m g to (r .after))) e

@@ -18,7 +18,7 @@ firstPair [] = pair 0 0
 firstPair (q ∷ qs) = q
 
 abbrev pub pieceOf : ℕ → List Pair → Claimed
-pieceOf id qs = claimed.Piece id (firstPair qs .start) (firstPair qs .len)
+pieceOf id qs = claimed.Piece id (record { 0 = firstPair qs .start }) (firstPair qs .len)
 
 -- what is chosen, told so
 abbrev pub choiceAnswer : Answer Choice → Claimed
@@ -31,7 +31,7 @@ claimAnswer (answered e) = pieceOf (editId e) (pairsIn e)
 
 -- the paper's numbers: refusal (0: accepted), zone told, id, disc bit, length
 abbrev pub claimNumbers : Claimed → ℕ × ℕ × ℕ × ℕ × ℕ
-claimNumbers (claimed.Piece id start len) = (0, 0, id, start, len)
+claimNumbers (claimed.Piece id start len) = (0, 0, id, start .0, len)
 claimNumbers (claimed.Refused r) = (r .number, r .zone, 0, 0, 0)
 
 -- as the table gives them for the outcome

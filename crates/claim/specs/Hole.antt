@@ -6,4 +6,4 @@ use Rattle.claim.specs.declared.Hole.the-variants as found
 
 abbrev pub holeOf : Option Pair → Hole
 holeOf none = found.None
-holeOf (some q) = found.At (q .start) (q .len)
+holeOf (some q) = found.At (record { 0 = q .start }) (q .len)

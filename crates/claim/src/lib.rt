@@ -1,6 +1,7 @@
 // Claim (document 01): given a size in bytes, gives the lowest unused id the first hole that is long enough. What is chosen (`choose`) is apart
 // from how it is given (`give_piece`). One pass over the map looks for the hole, and one, or a few where ids are many, for the id.
 use bits::both;
+use geometry::DiscBit;
 use geometry::Geometry;
 use geometry::Refusal;
 use geometry::refuse;
@@ -28,7 +29,7 @@ ghost use Rattle.claim.specs.Unused.{clearedBit, ClearedIn, Window, Unus
 
 // The id and the piece that it was given, or a refusal.
 pub enum Claimed {
-    Piece { id: u32, start: u32, len: u32 },
+    Piece { id: u32, start: DiscBit, len: u32 },
     Refused(Refusal),
 }
 
@@ -98,7 +99,10 @@ fn need_of(g: Geometry, size: u64) -> usize
     let bytes = size as usize;
     let cluster = g.cluster * g.unit;
     let started = bits::one(bytes % cluster != 0) as usize;
-    larger(g.shortest, (bytes / cluster + started) * g.cluster)
+    larger(
+        g.shortest_fragment(),
+        (bytes / cluster + started) * g.cluster,
+    )
 }
 
 fn larger(a: usize, b: usize) -> usize
@@ -113,10 +117,10 @@ fn smaller(a: usize, b: usize) -> usize
     if a < b { a } else { b }
 }
 
-// A hole by its first disc bit and its length, or none.
+// A hole by its first bit and its length, or none.
 enum Hole {
     None,
-    At(u32, u32),
+    At(DiscBit, u32),
 }
 
 // The first hole of at least `need` bits, zones from 0, holes ascending.
@@ -129,8 +133,9 @@ fn first_hole(map: &[u8], g: Geometry, need: usize) -> Hole
     while w.zone < zones {
         let s = walk::next(map, g, w);
         let line = s.line;
+        let start = line.start;
         if both(line.holder == 0, need <= line.len as usize) {
-            return Hole::At(line.start, line.len);
+            return Hole::At(start, line.len);
         }
         w = s.after;
     }
@@ -204,11 +209,11 @@ fn clear_id(unused: &mut [u8], from: usize, to: usize, id: usize)
 }
 
 // Gives a piece to an id, as a place of that pair does.
-fn give_piece(map: &mut [u8], g: Geometry, id: u32, start: u32, len: u32)
-    requires { ⌜ PieceFits (now map) g id start len ⌝ }
-    ensures { λ _. ⌜ now (map .exit) ≡ step (now (map .entry)) (place id (start ∷ len ∷ [])) ⌝ }
+fn give_piece(map: &mut [u8], g: Geometry, id: u32, start: DiscBit, len: u32)
+    requires { ⌜ PieceFits (now map) g id (start .0) len ⌝ }
+    ensures { λ _. ⌜ now (map .exit) ≡ step (now (map .entry)) (place id (start .0 ∷ len ∷ [])) ⌝ }
 {
-    let pair = [start, len];
+    let pair = [start.0, len];
     let mut buffer = [0u32; 4096];
     writer::edit_map(map, g, 0, &pair, id, &mut buffer);
 }

@@ -132,7 +132,7 @@ module _ (g : Geometry) (ok : AcceptedGeometry g) where
   pieces-found ess e f = record {
     fit = fit-found ess e f;
     objects = record {
-      one = λ z h. zone-rule g (λ i l. oneFromEnd (g .end) (zoneFrom g i) (zoneEnd g i) l ≡ true) ess f (λ i es x. x .one) z (omega arith);
+      one = λ z h. zone-rule g (λ i l. oneFromEnd (g .end .0) (zoneFrom g i) (zoneEnd g i) l ≡ true) ess f (λ i es x. x .one) z (omega arith);
       two = zone-rule g (λ i l. eqb i (g .zones / 2) ≡ true → twoFirst (zoneFrom g i) l ≡ true) ess f (λ i es x. x .two) (g .zones / 2) (omega (arith, ok .zones-low)) (eq-eqb (g .zones / 2) (g .zones / 2) refl);
     };
     clusters = all-found g (isWhole (g .cluster)) 0 ess f (λ i es lo hi x. x .clusters);

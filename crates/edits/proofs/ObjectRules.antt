@@ -108,7 +108,7 @@ two-insert m at end q (p ∷ ps) a k =
 
 -- the rules on objects 1 and 2, of a map's pieces
 pub record ObjectRules (g : Geometry) (l : List Piece) : Type 0 where
-  pub one : (z : ℕ) → z < g .zones → oneFromEnd (g .end) (zoneFrom g z) (zoneEnd g z) (inZone g z l) ≡ true
+  pub one : (z : ℕ) → z < g .zones → oneFromEnd (g .end .0) (zoneFrom g z) (zoneEnd g z) (inZone g z l) ≡ true
   pub two : twoFirst (zoneFrom g (g .zones / 2)) (inZone g (g .zones / 2) l) ≡ true
 
 -- pieces that lie apart with one more lie apart without it

@@ -46,7 +46,7 @@ objects-without : (g : Geometry) (id : ℕ) (l : List Piece) → 2 < id → Obje
 objects-without g id l h r = record {
   one = λ z k.
       rw (keep-comm (λ p. eqb (zoneOf g (p .at .start)) z) (notOf id) l)
-      (one-keep (g .end) (zoneFrom g z) (zoneFrom g z) (zoneEnd g z) (notOf id) (inZone g z l) (not-one id h) (inl refl) (r .one z k));
+      (one-keep (g .end .0) (zoneFrom g z) (zoneFrom g z) (zoneEnd g z) (notOf id) (inZone g z l) (not-one id h) (inl refl) (r .one z k));
   two =
       rw (keep-comm (λ p. eqb (zoneOf g (p .at .start)) (g .zones / 2)) (notOf id) l)
       (two-keep (zoneFrom g (g .zones / 2)) id (inZone g (g .zones / 2) l) h (r .two));
@@ -68,7 +68,7 @@ objects-insert : (g : Geometry) (q : Piece) (l : List Piece) → 0 < g .zones �
 objects-insert g q l n z a h r = record {
   one = λ i k. by-test (eqb (zoneOf g (q .at .start)) i)
       (λ t. let e = keep-insert (λ p. eqb (zoneOf g (p .at .start)) i) 0 q l a t in
-      rw e (one-insert (g .shortest) (g .end) (zoneFrom g i) (zoneEnd g i) q (inZone g i l) z (rw e at (h i k)) (r .one i k)))
+      rw e (one-insert (g .shortest) (g .end .0) (zoneFrom g i) (zoneEnd g i) q (inZone g i l) z (rw e at (h i k)) (r .one i k)))
       (λ t. rw (keep-insert-no (λ p. eqb (zoneOf g (p .at .start)) i) q l t) (r .one i k));
   two = let i = g .zones / 2 in by-test (eqb (zoneOf g (q .at .start)) i)
       (λ t. let e = keep-insert (λ p. eqb (zoneOf g (p .at .start)) i) 0 q l a t in

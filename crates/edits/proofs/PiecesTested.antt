@@ -95,24 +95,24 @@ module _ (at next : ℕ) (fs : List Fragment) (es : List Entry) (followed : foll
 
   -- the disc-end rule, from block bit `at` to `end`, which are disc bits a2 to e2
   pub one-of-ends : (g : Geometry) (z end a2 e2 : ℕ) → 512 ≤ z * g .bits + at → a2 + 512 ≡ z * g .bits + at → e2 + 512 ≡ z * g .bits + end → at + total fs ≡ end
-      → every (endFits g z) es ≡ true → oneFromEnd (g .end) a2 e2 (map (pieceToDisc g z) (ownedOf es)) ≡ true
+      → every (endFits g z) es ≡ true → oneFromEnd (g .end .0) a2 e2 (map (pieceToDisc g z) (ownedOf es)) ≡ true
   one-of-ends g z end a2 e2 lo p q =
       by-following (λ at fs es. (a2 : ℕ) → 512 ≤ z * g .bits + at → a2 + 512 ≡ z * g .bits + at → at + total fs ≡ end
-      → every (endFits g z) es ≡ true → oneFromEnd (g .end) a2 e2 (map (pieceToDisc g z) (ownedOf es)) ≡ true)
-      (λ at a2 lo p e h. or-left (eqb a2 e2) (leb e2 (g .end)) (eq-eqb a2 e2 (omega arith)))
-      (λ at f fs es k a2 lo p e h. let b = both (leb (discBit g z (at + f .len)) (g .end)) (every (endFits g z) es) h in
-      one-from (g .end) a2 (a2 + f .len) e2 (map (pieceToDisc g z) (ownedOf es)) (omega (arith, leb-true (discBit g z (at + f .len)) (g .end) (b .0)))
+      → every (endFits g z) es ≡ true → oneFromEnd (g .end .0) a2 e2 (map (pieceToDisc g z) (ownedOf es)) ≡ true)
+      (λ at a2 lo p e h. or-left (eqb a2 e2) (leb e2 (g .end .0)) (eq-eqb a2 e2 (omega arith)))
+      (λ at f fs es k a2 lo p e h. let b = both (leb (discBit g z (at + f .len)) (g .end .0)) (every (endFits g z) es) h in
+      one-from (g .end .0) a2 (a2 + f .len) e2 (map (pieceToDisc g z) (ownedOf es)) (omega (arith, leb-true (discBit g z (at + f .len)) (g .end .0) (b .0)))
       (k (a2 + f .len) (omega arith) (omega arith) (omega arith) (b .1)))
       (λ at f fs es k a2 lo p e h. let s = discBit g z at in
-      let b = both (eqb (f .id) 1 || leb (discBit g z (at + f .len)) (g .end)) (every (endFits g z) es) h in
-      and-true (gapEndsBy (g .end) a2 s && (eqb (f .id) 1 || leb (s + f .len) (g .end))) _
-      (and-true (gapEndsBy (g .end) a2 s) _ (or-left (eqb a2 s) _ (eq-eqb a2 s (omega arith))) (mine g z (f .id) at (f .len) lo (either (eqb (f .id) 1) _ (b .0))))
+      let b = both (eqb (f .id) 1 || leb (discBit g z (at + f .len)) (g .end .0)) (every (endFits g z) es) h in
+      and-true (gapEndsBy (g .end .0) a2 s && (eqb (f .id) 1 || leb (s + f .len) (g .end .0))) _
+      (and-true (gapEndsBy (g .end .0) a2 s) _ (or-left (eqb a2 s) _ (eq-eqb a2 s (omega arith))) (mine g z (f .id) at (f .len) lo (either (eqb (f .id) 1) _ (b .0))))
       (k (s + f .len) (omega arith) (omega arith) (omega arith) (b .1)))
       at next fs es followed a2 lo p
     where
-      mine : (g : Geometry) (z id at len : ℕ) → 512 ≤ z * g .bits + at → (eqb id 1 ≡ true) ⊎ (leb (discBit g z (at + len)) (g .end) ≡ true) → eqb id 1 || leb (discBit g z at + len) (g .end) ≡ true
+      mine : (g : Geometry) (z id at len : ℕ) → 512 ≤ z * g .bits + at → (eqb id 1 ≡ true) ⊎ (leb (discBit g z (at + len)) (g .end .0) ≡ true) → eqb id 1 || leb (discBit g z at + len) (g .end .0) ≡ true
       mine g z id at len lo (inl k) = or-left (eqb id 1) _ k
-      mine g z id at len lo (inr k) = or-right (eqb id 1) _ (le-leb (discBit g z at + len) (g .end) (omega (arith, leb-true (discBit g z (at + len)) (g .end) k)))
+      mine g z id at len lo (inr k) = or-right (eqb id 1) _ (le-leb (discBit g z at + len) (g .end .0) (omega (arith, leb-true (discBit g z (at + len)) (g .end .0) k)))
 
   -- the object 2 rule
   pub two-of-first : (g : Geometry) (z a2 : ℕ) → 512 ≤ z * g .bits + at → a2 + 512 ≡ z * g .bits + at → firstOwned 2 es ≡ true → twoFirst a2 (map (pieceToDisc g z) (ownedOf es)) ≡ true

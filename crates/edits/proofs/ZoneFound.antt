@@ -74,7 +74,7 @@ pub record ZonePieces (g : Geometry) (z : ℕ) (es : List Entry) : Type 0 where
   pub long : All (isLong (g .shortest)) (ownedOf es)
   pub ids : All (λ p. idFrom 1 g (p .owner)) (ownedOf es)
   pub apart-in : apart (g .shortest) (zoneFrom g z) (zoneEnd g z) (map (pieceToDisc g z) (ownedOf es)) ≡ true
-  pub one : oneFromEnd (g .end) (zoneFrom g z) (zoneEnd g z) (map (pieceToDisc g z) (ownedOf es)) ≡ true
+  pub one : oneFromEnd (g .end .0) (zoneFrom g z) (zoneEnd g z) (map (pieceToDisc g z) (ownedOf es)) ≡ true
   pub two : eqb z (g .zones / 2) ≡ true → twoFirst (zoneFrom g z) (map (pieceToDisc g z) (ownedOf es)) ≡ true
   pub clusters : All (isWhole (g .cluster)) (map (pieceToDisc g z) (ownedOf es))
 

@@ -46,32 +46,32 @@ ids-drawn g z at end (p ∷ ps) h k =
     ids-gap g at _ _ (simp (h .0, k .0, ids-drawn g z (blockBit g z (p .at .start) + p .at .len) end ps (h .1) (k .1)))
 
 -- the disc-end rule, from block bits a to e, which are disc bits a2 to e2
-ends-gap : (g : Geometry) (z a e : ℕ) (es : List Entry) → (a < e → z * g .bits + e ≤ g .end + 512) → every (endFits g z) es ≡ true → every (endFits g z) (gapEntry a e es) ≡ true
+ends-gap : (g : Geometry) (z a e : ℕ) (es : List Entry) → (a < e → z * g .bits + e ≤ g .end .0 + 512) → every (endFits g z) es ≡ true → every (endFits g z) (gapEntry a e es) ≡ true
 ends-gap g z a e es f h =
     by-test (ltb a e)
     (λ t. let k = f (ltb-true a e t) in
-    simp t (and-true (leb (discBit g z (a + (e - a))) (g .end)) _ (le-leb (discBit g z (a + (e - a))) (g .end) (omega (arith, ltb-true a e t))) h))
+    simp t (and-true (leb (discBit g z (a + (e - a))) (g .end .0)) _ (le-leb (discBit g z (a + (e - a))) (g .end .0) (omega (arith, ltb-true a e t))) h))
     (λ t. simp (t, h))
 
-ends-drawn : (g : Geometry) (z m a e a2 e2 : ℕ) (l : List Piece) → a2 + 512 ≡ z * g .bits + a → e2 + 512 ≡ z * g .bits + e → apart m a2 e2 l ≡ true → oneFromEnd (g .end) a2 e2 l ≡ true
+ends-drawn : (g : Geometry) (z m a e a2 e2 : ℕ) (l : List Piece) → a2 + 512 ≡ z * g .bits + a → e2 + 512 ≡ z * g .bits + e → apart m a2 e2 l ≡ true → oneFromEnd (g .end .0) a2 e2 l ≡ true
     → every (endFits g z) (drawnEntries a e (map (toBlock g z) l)) ≡ true
-ends-drawn g z m a e a2 e2 [] p q y t = ends-gap g z a e [] (λ h. (let k = ends-before (g .end) a2 e2 (omega arith) t in omega arith)) refl
+ends-drawn g z m a e a2 e2 [] p q y t = ends-gap g z a e [] (λ h. (let k = ends-before (g .end .0) a2 e2 (omega arith) t in omega arith)) refl
 ends-drawn g z m a e a2 e2 (x ∷ xs) p q y t =
     let s = x .at .start in
     let b = both (gapFits m a2 s) (apart m (s + x .at .len) e2 xs) y in
     let lo = gap-le m a2 s (gap-of-test m a2 s (b .0)) in
-    let c = both (gapEndsBy (g .end) a2 s && (eqb (x .owner) 1 || leb (s + x .at .len) (g .end))) (oneFromEnd (g .end) (s + x .at .len) e2 xs) t in
-    let d = both (gapEndsBy (g .end) a2 s) (eqb (x .owner) 1 || leb (s + x .at .len) (g .end)) (c .0) in
+    let c = both (gapEndsBy (g .end .0) a2 s && (eqb (x .owner) 1 || leb (s + x .at .len) (g .end .0))) (oneFromEnd (g .end .0) (s + x .at .len) e2 xs) t in
+    let d = both (gapEndsBy (g .end .0) a2 s) (eqb (x .owner) 1 || leb (s + x .at .len) (g .end .0)) (c .0) in
     let n = blockBit g z s in
     ends-gap g z a n _
-    (λ h. (let k = ends-before (g .end) a2 s (omega arith) (d .0) in omega arith))
-    (and-true (eqb (x .owner) 1 || leb (discBit g z (n + x .at .len)) (g .end)) _
-    (mine (either (eqb (x .owner) 1) (leb (s + x .at .len) (g .end)) (d .1)) lo)
+    (λ h. (let k = ends-before (g .end .0) a2 s (omega arith) (d .0) in omega arith))
+    (and-true (eqb (x .owner) 1 || leb (discBit g z (n + x .at .len)) (g .end .0)) _
+    (mine (either (eqb (x .owner) 1) (leb (s + x .at .len) (g .end .0)) (d .1)) lo)
     (ends-drawn g z m (n + x .at .len) e (s + x .at .len) e2 xs (omega arith) q (b .1) (c .1)))
   where
-    mine : (eqb (x .owner) 1 ≡ true) ⊎ (leb (x .at .start + x .at .len) (g .end) ≡ true) → a2 ≤ x .at .start → eqb (x .owner) 1 || leb (discBit g z (blockBit g z (x .at .start) + x .at .len)) (g .end) ≡ true
+    mine : (eqb (x .owner) 1 ≡ true) ⊎ (leb (x .at .start + x .at .len) (g .end .0) ≡ true) → a2 ≤ x .at .start → eqb (x .owner) 1 || leb (discBit g z (blockBit g z (x .at .start) + x .at .len)) (g .end .0) ≡ true
     mine (inl k) lo = or-left (eqb (x .owner) 1) _ k
-    mine (inr k) lo = or-right (eqb (x .owner) 1) _ (le-leb _ (g .end) (omega (arith, leb-true (x .at .start + x .at .len) (g .end) k)))
+    mine (inr k) lo = or-right (eqb (x .owner) 1) _ (le-leb _ (g .end .0) (omega (arith, leb-true (x .at .start + x .at .len) (g .end .0) k)))
 
 -- the object 2 rule
 first-drawn : (g : Geometry) (z a e a2 : ℕ) (l : List Piece) → a2 + 512 ≡ z * g .bits + a → twoFirst a2 l ≡ true → firstOwned 2 (drawnEntries a e (map (toBlock g z) l)) ≡ true

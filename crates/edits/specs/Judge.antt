@@ -42,11 +42,14 @@ pairsFrom (a ∷ b ∷ l) = record { start = a; len = b } ∷ pairsFrom l
 
 -- 12: "list empty, odd, out of object order, overlapping, a piece across zones or off the disc map, start or length not a
 -- multiple of k, length below m"
+abbrev pub inOneZone : Geometry → ℕ → ℕ → Bool
+inOneZone g start end = leb end (discBits g) && leb end (zoneEnd g (zoneOf g start))
+
 abbrev pub pairFits : Geometry → Pair → Bool
 pairFits g q =
     leb (g .shortest) (q .len)
     && (eqb (q .start % g .cluster) 0 && eqb (q .len % g .cluster) 0)
-    && (leb (q .start + q .len) (discBits g) && leb (q .start + q .len) (zoneEnd g (zoneOf g (q .start))))
+    && inOneZone g (q .start) (q .start + q .len)
 
 abbrev pub pairsFit : Geometry → ℕ → ℕ → List Pair → Bool
 pairsFit g id from [] = true

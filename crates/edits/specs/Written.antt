@@ -30,12 +30,15 @@ written idlen at end ps cross block = sealed (linkOf at end ps) cross (bytesOf (
 abbrev pub toBlock : Geometry → ℕ → Piece → Piece
 toBlock g z p = record { at = record { start = blockBit g z (p .at .start); len = p .at .len }; owner = p .owner }
 
+-- the block of zone z with these pieces, in disc bits
+abbrev pub zoneWritten : Geometry → ℕ → List Piece → ℕ → List ℕ → List ℕ
+zoneWritten g z ps cross block = written (g .idlen) (firstBit z) (endBit g) (map (toBlock g z) ps) cross block
+
 -- zone after zone from z on, with these pieces and cross checks
 abbrev pub writtenFrom : Geometry → List Piece → ℕ → List ℕ → List (List ℕ) → List (List ℕ)
 writtenFrom g ps z cs [] = []
 writtenFrom g ps z [] (b ∷ bs) = b ∷ bs
-writtenFrom g ps z (c ∷ cs) (b ∷ bs) =
-    written (g .idlen) (firstBit z) (endBit g) (map (toBlock g z) (inZone g z ps)) c b ∷ writtenFrom g ps (suc z) cs bs
+writtenFrom g ps z (c ∷ cs) (b ∷ bs) = zoneWritten g z (inZone g z ps) c b ∷ writtenFrom g ps (suc z) cs bs
 
 abbrev pub rewritten : Geometry → List (List ℕ) → Disc → List (List ℕ)
 rewritten g bs s = writtenFrom g (s .pieces) 0 (s .cross) bs

@@ -7,6 +7,7 @@
 //
 // What the id means is not decided here: on the free chain it leads to the next free fragment, elsewhere it is the owner
 // (crate `zone`).
+use geometry::BlockBit;
 ghost use mathlib.Core.Path.{_≡_};
 ghost use Prim.Native.Nat.{_+_, _*_, _^_, _<_, _≤_};
 ghost use lib.ListN.{length};
@@ -29,63 +30,64 @@ pub struct FragmentRead {
 }
 
 // The closing bit of a fragment whose id ends at `from`: the first 1 bit from there on, or `end` where there is none.
-pub fn closing_bit(block: &[u8], from: usize, end: usize) -> usize
-    requires { ⌜ (from ≤ end) × (end ≤ length (now block) * 8) ⌝ }
-    ensures { λ r. ⌜ (r ≡ from + zeros (slice from end (byteBits (now (block .entry))))) × (r ≤ end) ⌝ }
+pub fn closing_bit(block: &[u8], from: BlockBit, end: BlockBit) -> BlockBit
+    requires { ⌜ (from .0 ≤ end .0) × (end .0 ≤ length (now block) * 8) ⌝ }
+    ensures { λ r. ⌜ (r .0 ≡ from .0 + zeros (slice (from .0) (end .0) (byteBits (now (block .entry))))) × (r .0 ≤ end .0) ⌝ }
 {
-    from + bits::zero_run(block, from, end)
+    BlockBit(from.0 + bits::zero_run(block, from.0, end.0))
 }
 
-// The fragment that starts at bit `at` of a zone whose bits end at `end`.
-pub fn fragment_at(block: &[u8], at: usize, end: usize, idlen: usize, cluster: usize) -> Found
-    requires { ⌜ (at ≤ end) × (end ≤ length (now block) * 8) × (idlen ≤ 31) × (0 < cluster) ⌝ }
-    ensures { λ r. ⌜ r ≡ fragmentAt (now (block .entry)) at end idlen cluster ⌝ }
+// The fragment that starts at `at` in a zone whose bits end at `end`.
+pub fn fragment_at(block: &[u8], at: BlockBit, end: BlockBit, idlen: usize, cluster: usize) -> Found
+    requires { ⌜ (at .0 ≤ end .0) × (end .0 ≤ length (now block) * 8) × (idlen ≤ 31) × (0 < cluster) ⌝ }
+    ensures { λ r. ⌜ r ≡ fragmentAt (now (block .entry)) (at .0) (end .0) idlen cluster ⌝ }
 {
-    if end - at <= idlen {
+    if end.0 - at.0 <= idlen {
         return Found::Broken;
     }
-    let close = closing_bit(block, at + idlen, end);
-    if close == end {
+    let last = closing_bit(block, BlockBit(at.0 + idlen), end);
+    if last.0 == end.0 {
         return Found::Broken;
     }
-    let len = close + 1 - at;
+    let len = last.0 + 1 - at.0;
     if len % cluster != 0 {
         return Found::Broken;
     }
-    let id = bits::number(block, at, idlen);
+    let id = bits::number(block, at.0, idlen);
     Found::Whole { id, len }
 }
 
 // The fragment at `at`, whose closing bit stands before `end`: in a zone that keeps the rules each one's does.
-pub fn whole_fragment(block: &[u8], at: usize, end: usize, idlen: usize) -> FragmentRead
-    requires { ⌜ (idlen ≤ 31) × (end ≤ length (now block) * 8) × (at + lengthAt idlen at end (byteBits (now block)) ≤ end) ⌝ }
-    ensures { λ r. ⌜ (r .id ≡ idAt idlen at (byteBits (now (block .entry)))) × (r .len ≡ lengthAt idlen at end (byteBits (now (block .entry)))) ⌝ }
+pub fn whole_fragment(block: &[u8], at: BlockBit, end: BlockBit, idlen: usize) -> FragmentRead
+    requires { ⌜ (idlen ≤ 31) × (end .0 ≤ length (now block) * 8) × (at .0 + lengthAt idlen (at .0) (end .0) (byteBits (now block)) ≤ end .0) ⌝ }
+    ensures id { λ r. ⌜ r .id ≡ idAt idlen (at .0) (byteBits (now (block .entry))) ⌝ }
+    ensures len { λ r. ⌜ r .len ≡ lengthAt idlen (at .0) (end .0) (byteBits (now (block .entry))) ⌝ }
 {
-    let last = closing_bit(block, at + idlen, end);
-    let id = bits::number(block, at, idlen);
+    let last = closing_bit(block, BlockBit(at.0 + idlen), end);
+    let id = bits::number(block, at.0, idlen);
     FragmentRead {
         id,
-        len: last + 1 - at,
+        len: last.0 + 1 - at.0,
     }
 }
 
 // Where a link leads that counts from a place, or 0 where it leads nowhere.
-pub fn link_from(at: usize, link: usize) -> usize
-    requires { ⌜ at + link < 2 ^ 64 ⌝ }
-    ensures { λ r. ⌜ r ≡ onward at link ⌝ }
+pub fn link_from(at: BlockBit, link: usize) -> BlockBit
+    requires { ⌜ at .0 + link < 2 ^ 64 ⌝ }
+    ensures { λ r. ⌜ r .0 ≡ onward (at .0) link ⌝ }
 {
     if link == 0 {
-        return 0;
+        return BlockBit(0);
     }
-    at + link
+    BlockBit(at.0 + link)
 }
 
 // Where the chain leads next, once the fragment at `at` is passed: its id leads on only if the chain led to it.
-pub fn next_after(at: usize, next: usize, id: usize) -> usize
-    requires { ⌜ at + id < 2 ^ 64 ⌝ }
-    ensures { λ r. ⌜ r ≡ nextAfter at next id ⌝ }
+pub fn next_after(at: BlockBit, next: BlockBit, id: usize) -> BlockBit
+    requires { ⌜ at .0 + id < 2 ^ 64 ⌝ }
+    ensures { λ r. ⌜ r .0 ≡ nextAfter (at .0) (next .0) id ⌝ }
 {
-    if at == next {
+    if at.0 == next.0 {
         return link_from(at, id);
     }
     next

@@ -8,7 +8,7 @@ use native.Mathlib.Omega.{arith}
 use borrow.Author.Tests.{eq-eqb, ne-eqb}
 use Rattle.geometry.specs.declared.Geometry.{Geometry}
 use Rattle.geometry.specs.Accepted.{AcceptedGeometry}
-use Rattle.geometry.specs.Places.{firstBit, endBit, discBit, blockBit, zoneOf, discBits}
+use Rattle.geometry.specs.Places.{firstBit, endBit, discBit, blockBit, zoneOf, zoneFrom, zoneEnd, discBits}
 
 -- where a zone's bits begin
 pub first-of-zero : (z : ℕ) → z ≡ 0 → firstBit z ≡ 512
@@ -21,15 +21,21 @@ pub first-low : (z : ℕ) → 32 ≤ firstBit z
 first-low zero = rw (first-of-zero 0 refl) (omega arith)
 first-low (suc z) = rw (first-of-other (suc z) (λ e. omega arith)) (omega arith)
 
+-- a zone's disc bits, by its first and its last
+pub zone-starts : (g : Geometry) (z : ℕ) → zoneFrom g z ≡ discBit g z (firstBit z)
+zone-starts g zero = rw (first-of-zero 0 refl) (omega arith)
+zone-starts g (suc z) = rw (first-of-other (suc z) (λ e. omega arith)) (omega arith)
+
+pub zone-ends : (g : Geometry) (z : ℕ) → zoneEnd g z ≡ discBit g z (endBit g)
+zone-ends g z = rw suc-mul (omega arith)
+
 module _ (g : Geometry) (ok : AcceptedGeometry g) where
   -- the map's bits are few enough to be counted
-  pub zone-bits-small : (z : ℕ) → z ≤ g .zones → z * g .bits ≤ 534773760
-  zone-bits-small z h =
-      let l : z ≤ 65536 = omega (arith, ok .zones-high) in
-      omega (arith, mul-le-mul l (ok .bits-high))
+  pub zone-bits-small : (z : ℕ) → z ≤ 65536 → z * g .bits ≤ 534773760
+  zone-bits-small z h = mul-le-mul h (ok .bits-high)
 
   pub disc-bits-small : discBits g ≤ 534773760
-  disc-bits-small = omega (arith, zone-bits-small (g .zones) (omega arith))
+  disc-bits-small = omega (arith, zone-bits-small (g .zones) (omega (arith, ok .zones-high)))
 
   -- zone 0 alone has room for the disc record
   pub map-bits-low : 480 ≤ g .zones * g .bits

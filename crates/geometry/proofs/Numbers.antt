@@ -99,11 +99,11 @@ module _ (r : DiscRecord) (f : FieldRules r) where
 
   -- what they give with the rules on what they give together
   module _ (t : GeometryRules g) where
-    ended : g .end ≤ g .zones * g .bits - 480
+    ended : g .end .0 ≤ g .zones * g .bits - 480
     ended =
         let most : ℕ = g .zones * g .bits - 480 in
         let l : g .size < suc most * g .unit = rw (suc-mul most (g .unit)) (omega (arith, t .within-map, pow-pos (r .logunit))) in
-        let d : g .end < suc most = div-lt-iff-lt-mul (pow-pos (r .logunit)) .1 l in
+        let d : g .end .0 < suc most = div-lt-iff-lt-mul (pow-pos (r .logunit)) .1 l in
         omega arith
 
     pub rules-give-accepted : AcceptedGeometry g
@@ -163,7 +163,7 @@ pub test-gives-accepted : (r : List ℕ) → recordFits r ≡ true → AcceptedG
 test-gives-accepted r t = accepted r (test-gives-rules r t)
 
 -- two bench lines: the floppy of 819,200 bytes, and P's divisor without the rounding to clusters
-pub floppy : let g = geometryFrom (floppyDisc 15) in (g .bits ≡ 6880) × (g .shortest ≡ 16) × (g .ids ≡ 430) × (g .end ≡ 6400)
+pub floppy : let g = geometryFrom (floppyDisc 15) in (g .bits ≡ 6880) × (g .shortest ≡ 16) × (g .ids ≡ 430) × (g .end .0 ≡ 6400)
 floppy = (refl, refl, refl, refl)
 
 pub divisor : let g = geometryFrom (floppyDisc 13) in (g .bits ≡ 6880) × (g .shortest ≡ 16) × (g .ids ≡ 491)

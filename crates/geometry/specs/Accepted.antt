@@ -52,5 +52,5 @@ pub record AcceptedGeometry (g : Geometry) : Type 0 where
   pub size-low : 0 < g .size
   pub size-sectors : g .size % g .sector ≡ 0
   pub size-high : g .size ≤ (g .zones * g .bits - 480) * g .unit
-  pub end-is : g .end ≡ g .size / g .unit
-  pub end-high : g .end ≤ g .zones * g .bits - 480
+  pub end-is : g .end .0 ≡ g .size / g .unit
+  pub end-high : g .end .0 ≤ g .zones * g .bits - 480

@@ -7,7 +7,7 @@ use Rattle.geometry.specs.declared.Geometry.{Geometry}
 use Rattle.geometry.specs.Record.{geometryIn, geometryFrom, floppyDisc, eightZones}
 use Rattle.geometry.specs.Ranges.{RecordRules, recordFits}
 use Rattle.geometry.specs.Accepted.{AcceptedGeometry}
-use Rattle.geometry.specs.Places.{firstBit, endBit, discBit, blockBit, zoneOf, discBits, startZone}
+use Rattle.geometry.specs.Places.{firstBit, endBit, discBit, blockBit, zoneOf, zoneFrom, zoneEnd, discBits, startZone}
 use Rattle.geometry.specs.Answers.{startOf, startNumbers}
 
 pub record GeometryLaws : Type 0 where
@@ -20,10 +20,13 @@ pub record GeometryLaws : Type 0 where
   pub disc-of-block : (g : Geometry) → AcceptedGeometry g → (d : ℕ) → discBit g (zoneOf g d) (blockBit g (zoneOf g d) d) ≡ d
   pub zone-of-disc : (g : Geometry) → AcceptedGeometry g → (z b : ℕ) → firstBit z ≤ b → b < endBit g → zoneOf g (discBit g z b) ≡ z
   pub on-the-map : (g : Geometry) → AcceptedGeometry g → (z b : ℕ) → z < g .zones → firstBit z ≤ b → b < endBit g → discBit g z b < discBits g
+  -- a zone's disc bits run from that of its first allocation bit to that of its end
+  pub zone-starts : (g : Geometry) (z : ℕ) → zoneFrom g z ≡ discBit g z (firstBit z)
+  pub zone-ends : (g : Geometry) (z : ℕ) → zoneEnd g z ≡ discBit g z (endBit g)
   -- an id's start zone is a zone
   pub start-in-range : (g : Geometry) (id : ℕ) → 1 ≤ id → id < g .ids * g .zones → startZone g id < g .zones
   -- document 01's last bench line: Z 6880, m 16, P 430, 819,200 bytes
-  pub floppy : let g = geometryFrom (floppyDisc 15) in (g .bits ≡ 6880) × (g .shortest ≡ 16) × (g .ids ≡ 430) × (g .end ≡ 6400)
+  pub floppy : let g = geometryFrom (floppyDisc 15) in (g .bits ≡ 6880) × (g .shortest ≡ 16) × (g .ids ≡ 430) × (g .end .0 ≡ 6400)
   -- P's divisor is not rounded to clusters: with ids of 13 bits m is 16 too, and P = Z div 14
   pub divisor : let g = geometryFrom (floppyDisc 13) in (g .bits ≡ 6880) × (g .shortest ≡ 16) × (g .ids ≡ 491)
   -- "Id 690 with 168 ids per zone: start zone 4 (document 000)"

@@ -56,7 +56,7 @@ geometryFrom r =
       shortest = m;
       ids = Z / (r .idlen + 1);
       size = r .size;
-      end = r .size / B;
+      end = record { 0 = r .size / B };
     }
 
 abbrev pub geometryIn : List ℕ → Geometry

@@ -9,7 +9,7 @@ ghost use lib.ListN.{length};
 ghost use Rattle.geometry.specs.Record.{clusterOf, twoBytes, recordIn, geometryFrom};
 ghost use Rattle.geometry.specs.Ranges.{FieldRules, between, fieldsFit, geometryFits};
 ghost use Rattle.geometry.specs.Accepted.{SmallNumbers, AcceptedGeometry};
-ghost use Rattle.geometry.specs.Places.{firstBit, endBit, discBit, zoneOf, zoneFrom, discBits, idFrom};
+ghost use Rattle.geometry.specs.Places.{firstBit, endBit, discBit, blockBit, zoneOf, zoneFrom, discBits, idFrom};
 ghost use Rattle.geometry.specs.Answers.{refusal, ReadsRecord, StartsAt};
 ghost use Rattle.geometry.specs.Laws.{GeometryLaws};
 
@@ -34,7 +34,7 @@ pub struct Geometry {
     pub shortest: usize, // m, the shortest fragment
     pub ids: usize, // P, the ids per zone
     pub size: usize, // disc_size in bytes
-    pub end: usize, // disc_size div B, the disc bit where the disc ends
+    pub end: DiscBit, // disc_size div B, where the disc ends
 }
 
 // A numbered refusal of document 01's table, with the zone told.
@@ -55,10 +55,11 @@ pub enum Start {
     Refused(Refusal),
 }
 
-// A bit within a zone's block, and a bit of the disc: two kinds of number.
+// A bit within a zone's block, and a bit of the disc: two kinds of number. `Geometry::disc_bit` and `Geometry::block_bit` alone lead from
+// one to the other. A disc bit is a number of a list, so it has 32 bits.
 pub struct BlockBit(pub usize);
 
-pub struct DiscBit(pub usize);
+pub struct DiscBit(pub u32);
 
 // The most zones and the longest id that are accepted.
 const MOST_ZONES: usize = 127;
@@ -150,21 +151,28 @@ impl Geometry {
         self.zones * self.bits - 480
     }
 
-    // The first disc bit of zone z, which is that of block bit 32, or of 512 in zone 0; of the number after the last zone, the
-    // disc bit where the map ends.
+    // The disc bit of a block bit.
+    pub fn disc_bit(self, z: usize, b: BlockBit) -> DiscBit
+        requires { ⌜ AcceptedGeometry self × (z ≤ 65536) × (firstBit z ≤ b .0) × (b .0 ≤ endBit self) ⌝ }
+        ensures { λ r. ⌜ r .0 ≡ discBit self z (b .0) ⌝ }
+    {
+        DiscBit((z * self.bits + b.0 - 512) as u32)
+    }
+
+    // The block bit in zone z of a disc bit, by the same formula; 0 for a bit before that zone's block.
+    pub fn block_bit(self, z: usize, d: DiscBit) -> BlockBit
+        requires { ⌜ AcceptedGeometry self × (z ≤ 65536) ⌝ }
+        ensures { λ r. ⌜ r .0 ≡ blockBit self z (d .0) ⌝ }
+    {
+        BlockBit(minus(d.0 as usize + 512, z * self.bits))
+    }
+
+    // The disc bit of zone z's first allocation bit; of the number after the last zone, the disc bit where the map ends.
     pub fn first_disc_bit(self, z: usize) -> DiscBit
         requires { ⌜ AcceptedGeometry self × (z ≤ 65536) ⌝ }
         ensures { λ r. ⌜ r .0 ≡ zoneFrom self z ⌝ }
     {
-        DiscBit(minus(z * self.bits, 480))
-    }
-
-    // The disc bit of a block bit.
-    pub fn disc_bit(self, z: usize, b: BlockBit) -> DiscBit
-        requires { ⌜ AcceptedGeometry self × (z < self .zones) × (firstBit z ≤ b .0) × (b .0 ≤ endBit self) ⌝ }
-        ensures { λ r. ⌜ r .0 ≡ discBit self z (b .0) ⌝ }
-    {
-        DiscBit(z * self.bits + b.0 - 512)
+        self.disc_bit(z, self.zone_first(z))
     }
 
     // The zone in which a disc bit lies.
@@ -172,17 +180,7 @@ impl Geometry {
         requires { ⌜ AcceptedGeometry self × (d .0 ≤ discBits self) ⌝ }
         ensures { λ r. ⌜ r ≡ zoneOf self (d .0) ⌝ }
     {
-        (d.0 + 480) / self.bits
-    }
-}
-
-impl DiscBit {
-    // The block bit in the zone whose z*Z is `low`, by the same formula; 0 for a bit before that zone's block.
-    pub fn block_bit(self, low: usize) -> BlockBit
-        requires { ⌜ self .0 < 2 ^ 32 ⌝ }
-        ensures { λ r. ⌜ r .0 ≡ self .0 + 512 - low ⌝ }
-    {
-        BlockBit(minus(self.0 + 512, low))
+        (d.0 as usize + 480) / self.bits
     }
 }
 
@@ -208,7 +206,7 @@ fn cluster_of(s: usize, b: usize) -> usize
 // The fields of a record's bytes.
 fn record_in(r: &[u8]) -> DiscRecord
     requires { ⌜ length (now r) ≡ 60 ⌝ }
-    ensures { λ d. ⌜ (d ≡ recordIn (now (r .entry))) × (d .logsector < 256) ⌝ }
+    ensures { λ d. ⌜ (d ≡ recordIn (now (r .entry))) × (d .logsector < 256) × (d .size < 4294967296) ⌝ }
 {
     DiscRecord {
         logsector: wide(r[0]),
@@ -248,7 +246,7 @@ fn fields_fit(r: DiscRecord) -> bool
 
 // The numbers that the fields fix. A zone_spare above 8S leaves no bits.
 fn geometry_from(r: DiscRecord) -> Geometry
-    requires { ⌜ FieldRules r ⌝ }
+    requires { ⌜ FieldRules r × (r .size < 4294967296) ⌝ }
     ensures { λ g. ⌜ g ≡ geometryFrom r ⌝ }
 {
     let sector = power(r.logsector);
@@ -265,7 +263,7 @@ fn geometry_from(r: DiscRecord) -> Geometry
         shortest: (r.idlen + 1 + cluster - 1) / cluster * cluster,
         ids: bits / (r.idlen + 1),
         size: r.size,
-        end: r.size / unit,
+        end: DiscBit((r.size / unit) as u32),
     }
 }
 

@@ -39,14 +39,14 @@ module _ (h : ℕ) {m : List ℕ} {g : Geometry} {w : Walk} {r : Step} (a : Adva
 
   module _ {old new : List ℕ} {at j : ℕ} {whole : List Pair} (s : StoredSoFar old new at j whole (heldLines h (remaining m g to w))) where
     room-is : cond wanted 2 0 ≡ 2 * length this
-    room-is = pair-room wanted ∙ ap (λ (x : ℕ). 2 * x) (sym (pair-count wanted (r .line .start) (r .line .len)))
+    room-is = pair-room wanted ∙ ap (λ (x : ℕ). 2 * x) (sym (pair-count wanted (r .line .start .0) (r .line .len)))
 
     pub line-room : at + 2 * length whole ≤ length old → j + cond wanted 2 0 ≤ length new
     line-room f = omega (arith, room-is, stored-room s this others step f)
 
-    pub line-stored : {next : List ℕ} {i : ℕ} → next ≡ sets new j (cond wanted (r .line .start ∷ r .line .len ∷ []) []) → i ≡ j + cond wanted 2 0
+    pub line-stored : {next : List ℕ} {i : ℕ} → next ≡ sets new j (cond wanted (r .line .start .0 ∷ r .line .len ∷ []) []) → i ≡ j + cond wanted 2 0
         → StoredSoFar old next at i whole others
     line-stored en ei =
         stored-turn s this others step
-        (en ∙ ap (sets new j) (sym (pair-numbers wanted (r .line .start) (r .line .len))))
+        (en ∙ ap (sets new j) (sym (pair-numbers wanted (r .line .start .0) (r .line .len))))
         (ei ∙ ap (λ (x : ℕ). j + x) room-is)

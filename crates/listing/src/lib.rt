@@ -1,5 +1,6 @@
 // Lists an object's pieces and the free spans (document 01, "The calls"). A call checks the map, judges its arguments in the
 // table's order, counts, and only then writes: a refusal leaves the lent list as it was.
+use geometry::DiscBit;
 use geometry::Geometry;
 use geometry::Refusal;
 use geometry::Start;
@@ -14,7 +15,7 @@ ghost use lib.ListN.{length};
 ghost use lib.Seq.{sets};
 ghost use Rattle.model.specs.Chain.{numbersOf};
 ghost use Rattle.map.specs.Accepted.{AcceptedMap};
-ghost use Rattle.walk.specs.HeldBy.{heldFrom};
+ghost use Rattle.walk.specs.HeldBy.{heldFrom, heldBetween};
 ghost use Rattle.listing.specs.Listed.{objectFound, freeFound, Lists};
 ghost use Rattle.listing.specs.Laws.{ListingLaws};
 
@@ -102,9 +103,9 @@ pub fn write_held(
     pairs: &mut [u32],
     at: usize,
 ) -> usize
-    requires { ⌜ AcceptedMap (now map) g × (from ≤ to) × (to ≤ g .zones) × (at + 2 * length (heldFrom g holder (now map) from (to - from)) ≤ length (now pairs)) ⌝ }
-    ensures list { λ r. ⌜ now (pairs .exit) ≡ sets (now (pairs .entry)) at (numbersOf (heldFrom g holder (now (map .entry)) from (to - from))) ⌝ }
-    ensures next { λ r. ⌜ r ≡ at + 2 * length (heldFrom g holder (now (map .entry)) from (to - from)) ⌝ }
+    requires { ⌜ AcceptedMap (now map) g × (from ≤ to) × (to ≤ g .zones) × (at + 2 * length (heldBetween g holder (now map) from to) ≤ length (now pairs)) ⌝ }
+    ensures list { λ r. ⌜ now (pairs .exit) ≡ sets (now (pairs .entry)) at (numbersOf (heldBetween g holder (now (map .entry)) from to)) ⌝ }
+    ensures next { λ r. ⌜ r ≡ at + 2 * length (heldBetween g holder (now (map .entry)) from to) ⌝ }
 {
     let mut i = at;
     let mut w = walk::from_zone(map, g, from);
@@ -125,13 +126,13 @@ fn same(a: u32, b: u32) -> usize
 }
 
 // Stores a pair at entry `at` if it is wanted; answers the entry after it.
-fn put_if(wanted: bool, start: u32, len: u32, pairs: &mut [u32], at: usize) -> usize
+fn put_if(wanted: bool, start: DiscBit, len: u32, pairs: &mut [u32], at: usize) -> usize
     requires { ⌜ at + cond wanted 2 0 ≤ length (now pairs) ⌝ }
-    ensures list { λ r. ⌜ now (pairs .exit) ≡ sets (now (pairs .entry)) at (cond wanted (start ∷ len ∷ []) []) ⌝ }
+    ensures list { λ r. ⌜ now (pairs .exit) ≡ sets (now (pairs .entry)) at (cond wanted (start .0 ∷ len ∷ []) []) ⌝ }
     ensures next { λ r. ⌜ r ≡ at + cond wanted 2 0 ⌝ }
 {
     if wanted {
-        pairs[at] = start;
+        pairs[at] = start.0;
         pairs[at + 1] = len;
         return at + 2;
     }

@@ -29,7 +29,7 @@ unfoldable pub ownerText : ℕ → List ℕ
 ownerText h = cond (eqb h 0) (ascii "free") (decimal h)
 
 unfoldable pub lineText : Line → List ℕ
-lineText l = ownerText (l .holder) ++ pairText (l .start) (l .len)
+lineText l = ownerText (l .holder) ++ pairText (l .start .0) (l .len)
 
 unfoldable pub refusalText : Refusal → List ℕ
 refusalText r = ascii "refused" ++ pairText (r .number) (r .zone)

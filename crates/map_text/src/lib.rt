@@ -1,6 +1,7 @@
 // The text that program `map_lines` prints of a map: a line for each fragment, or the refusal (document 01, "What the station
 // handles"). The text of a large map is long, and there is no heap: it is made part after part in a lent buffer. What is left of it
 // (`Left`) is a value, and each part's contract says that the part is the next stretch of the text.
+use geometry::DiscBit;
 use geometry::Geometry;
 use geometry::Refusal;
 use geometry::refuse;
@@ -132,12 +133,12 @@ fn lines_part(map: &[u8], g: Geometry, from: Walk, text: &mut [u8]) -> Part
 // The functions below store a piece of text from an index on and answer the index after it.
 
 // A fragment's line: at most 33 bytes, since a number of 32 bits has at most ten digits.
-fn put_line(holder: u32, start: u32, len: u32, text: &mut [u8], at: usize) -> usize
+fn put_line(holder: u32, start: DiscBit, len: u32, text: &mut [u8], at: usize) -> usize
     requires { ⌜ at + 33 ≤ length (now text) ⌝ }
-    ensures { λ r. ⌜ Puts (ownerText holder ++ pairText start len) (now (text .entry)) at r (now (text .exit)) ⌝ }
+    ensures { λ r. ⌜ Puts (ownerText holder ++ pairText (start .0) len) (now (text .entry)) at r (now (text .exit)) ⌝ }
 {
     let i = put_owner(holder, text, at);
-    put_pair(start, len, text, i)
+    put_pair(start.0, len, text, i)
 }
 
 fn put_refusal(number: u32, zone: u32, text: &mut [u8]) -> usize

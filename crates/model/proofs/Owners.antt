@@ -43,25 +43,25 @@ module _ (g : Geometry) (ok : AcceptedGeometry g) (z : ℕ) (b : List ℕ) (fs :
       })
 
   -- the disc's end
-  past-end : (a len d : ℕ) → g .end ≤ d → d < discBit g z (a + len) → leb (discBit g z (a + len)) (g .end) ≡ true → ⊥
-  past-end a len d h k t = omega (arith, leb-true (discBit g z (a + len)) (g .end) t)
+  past-end : (a len d : ℕ) → g .end .0 ≤ d → d < discBit g z (a + len) → leb (discBit g z (a + len)) (g .end .0) ≡ true → ⊥
+  past-end a len d h k t = omega (arith, leb-true (discBit g z (a + len)) (g .end .0) t)
 
-  ends-hold : every (endFits g z) es ≡ true → (a : ℕ) (f : Fragment) → StartsAt (firstBit z) fs a f → (d : ℕ) → g .end ≤ d → discBit g z a ≤ d → d < discBit g z (a + f .len)
+  ends-hold : every (endFits g z) es ≡ true → (a : ℕ) (f : Fragment) → StartsAt (firstBit z) fs a f → (d : ℕ) → g .end .0 ≤ d → discBit g z a ≤ d → d < discBit g z (a + f .len)
       → (Free z b fs a → ⊥) × (f .id ≡ 1)
   ends-hold t a f s d h low k =
       let w = every-passes (endFits g z) (firstBit z) (onward 8 (linkIn b)) fs es some-place l e t a f s in
       let n : Free z b fs a → ⊥ = (λ c. past-end a (f .len) d h k (w .as-free c)) in
-      (n, go (either (eqb (f .id) 1) (leb (discBit g z (a + f .len)) (g .end)) (w .as-owned n)))
+      (n, go (either (eqb (f .id) 1) (leb (discBit g z (a + f .len)) (g .end .0)) (w .as-owned n)))
     where
-      go : (eqb (f .id) 1 ≡ true) ⊎ (leb (discBit g z (a + f .len)) (g .end) ≡ true) → f .id ≡ 1
+      go : (eqb (f .id) 1 ≡ true) ⊎ (leb (discBit g z (a + f .len)) (g .end .0) ≡ true) → f .id ≡ 1
       go (inl t) = eqb-true (f .id) 1 t
       go (inr t) = absurd (past-end a (f .len) d h k t)
 
   -- a fragment that ends past the disc's end has a bit there: its last
-  last-bit : (a : ℕ) (f : Fragment) → firstBit z ≤ a → 0 < f .len → leb (discBit g z (a + f .len)) (g .end) ≡ false
-      → (g .end ≤ discBit g z (a + f .len) - 1) × (discBit g z a ≤ discBit g z (a + f .len) - 1) × (discBit g z (a + f .len) - 1 < discBit g z (a + f .len))
+  last-bit : (a : ℕ) (f : Fragment) → firstBit z ≤ a → 0 < f .len → leb (discBit g z (a + f .len)) (g .end .0) ≡ false
+      → (g .end .0 ≤ discBit g z (a + f .len) - 1) × (discBit g z a ≤ discBit g z (a + f .len) - 1) × (discBit g z (a + f .len) - 1 < discBit g z (a + f .len))
   last-bit a f h k t =
-      let u = leb-false (discBit g z (a + f .len)) (g .end) t in
+      let u = leb-false (discBit g z (a + f .len)) (g .end .0) t in
       let v = from-zero-on g ok z a h in
       (omega arith, omega arith, omega arith)
 
@@ -71,11 +71,11 @@ module _ (g : Geometry) (ok : AcceptedGeometry g) (z : ℕ) (b : List ℕ) (fs :
 
   ends-fit : OwnerRule g z b fs → every (endFits g z) es ≡ true
   ends-fit r = passes-every (endFits g z) (firstBit z) (onward 8 (linkIn b)) fs es some-place l e
-      (λ a f s. by-test (leb (discBit g z (a + f .len)) (g .end))
-      (λ t. record { as-free = λ c. t; as-owned = λ n. or-right (eqb (f .id) 1) (leb (discBit g z (a + f .len)) (g .end)) t })
+      (λ a f s. by-test (leb (discBit g z (a + f .len)) (g .end .0))
+      (λ t. record { as-free = λ c. t; as-owned = λ n. or-right (eqb (f .id) 1) (leb (discBit g z (a + f .len)) (g .end .0)) t })
       (λ t. let y = last-bit a f (starts-from s) (long-at s l) t in
       let v = r .disc-end a f s (discBit g z (a + f .len) - 1) (y .0) (y .1) (y .2) in
-      record { as-free = λ c. absurd (v .0 c); as-owned = λ n. or-left (eqb (f .id) 1) (leb (discBit g z (a + f .len)) (g .end)) (eq-eqb (f .id) 1 (v .1)) }))
+      record { as-free = λ c. absurd (v .0 c); as-owned = λ n. or-left (eqb (f .id) 1) (leb (discBit g z (a + f .len)) (g .end .0)) (eq-eqb (f .id) 1 (v .1)) }))
 
 -- object 2: the first entry
 first-holds : (at next : ℕ) (fs : List Fragment) (es : List Entry) → 0 < at → Long fs → follow at next fs ≡ some es → firstOwned 2 es ≡ true

@@ -41,7 +41,7 @@ abbrev pub idFits : Geometry → Entry → Bool
 idFits g e = holderFits g (e .holder)
 
 abbrev pub endFits : Geometry → ℕ → Entry → Bool
-endFits g z e = isOwned 1 (e .holder) || leb (discBit g z (e .at .start + e .at .len)) (g .end)
+endFits g z e = isOwned 1 (e .holder) || leb (discBit g z (e .at .start + e .at .len)) (g .end .0)
 
 abbrev pub firstOwned : ℕ → List Entry → Bool
 firstOwned id [] = false

@@ -36,7 +36,7 @@ pub record OwnerRule (g : Geometry) (z : ℕ) (block : List ℕ) (fs : List Frag
   -- "all others are owned by their id, which lies from 1 to P*nzones - 1"
   pub ids : (a : ℕ) (f : Fragment) → StartsAt (firstBit z) fs a f → (Free z block fs a → ⊥) → (1 ≤ f .id) × (f .id < g .ids * g .zones)
   -- "Every disc bit from disc_size div B onward is owned by 1": such a bit d of a fragment makes it object 1's
-  pub disc-end : (a : ℕ) (f : Fragment) → StartsAt (firstBit z) fs a f → (d : ℕ) → g .end ≤ d → discBit g z a ≤ d → d < discBit g z (a + f .len)
+  pub disc-end : (a : ℕ) (f : Fragment) → StartsAt (firstBit z) fs a f → (d : ℕ) → g .end .0 ≤ d → discBit g z a ≤ d → d < discBit g z (a + f .len)
       → (Free z block fs a → ⊥) × (f .id ≡ 1)
   -- "The first fragment of zone (nzones div 2) is owned by 2."
   pub object-2 : z ≡ g .zones / 2 → (f : Fragment) × StartsAt (firstBit z) fs (firstBit z) f × (Free z block fs (firstBit z) → ⊥) × (f .id ≡ 2)

@@ -32,20 +32,20 @@ module _ (g : Geometry) (start : ℕ) (list : List ℕ) (even : length list % 2 
   -- the pair there as the code has read it
   module _ (h : i < length list) (p : i % 2 ≡ 0) {q : code.Pair} (eq : q ≡ pairIn list i) where
     turn : fitsFrom g start from (pairsFrom (drop i list))
-        ≡ pairFits g (pair (q .start) (q .len)) && leb from (orderPlace g start (q .start)) && fitsFrom g start (orderPlace g start (q .start) + q .len) (pairsFrom (drop (i + 2) list))
+        ≡ pairFits g (pair (q .start .0) (q .len)) && leb from (orderPlace g start (q .start .0)) && fitsFrom g start (orderPlace g start (q .start .0) + q .len) (pairsFrom (drop (i + 2) list))
     turn =
         ap (fitsFrom g start from) (next-pairs list i (omega arith))
-        ∙ ap (λ (x : code.Pair). pairFits g (pair (x .start) (x .len)) && leb from (orderPlace g start (x .start)) && fitsFrom g start (orderPlace g start (x .start) + x .len) (pairsFrom (drop (i + 2) list))) (sym eq)
+        ∙ ap (λ (x : code.Pair). pairFits g (pair (x .start .0) (x .len)) && leb from (orderPlace g start (x .start .0)) && fitsFrom g start (orderPlace g start (x .start .0) + x .len) (pairsFrom (drop (i + 2) list))) (sym eq)
 
-    pub pair-fails : pairFits g (pair (q .start) (q .len)) ≡ false → fitsFrom g start from (pairsFrom (drop i list)) ≡ false
+    pub pair-fails : pairFits g (pair (q .start .0) (q .len)) ≡ false → fitsFrom g start from (pairsFrom (drop i list)) ≡ false
     pair-fails t = rw t at turn
 
-    module _ (t : pairFits g (pair (q .start) (q .len)) ≡ true) {at : ℕ} (e : at ≡ orderPlace g start (q .start)) where
+    module _ (t : pairFits g (pair (q .start .0) (q .len)) ≡ true) {at : ℕ} (e : at ≡ orderPlace g start (q .start .0)) where
       pub order-fails : at < from → fitsFrom g start from (pairsFrom (drop i list)) ≡ false
-      order-fails k = let l : leb from (orderPlace g start (q .start)) ≡ false = lt-leb from (orderPlace g start (q .start)) (omega arith) in rw (t, l) at turn
+      order-fails k = let l : leb from (orderPlace g start (q .start .0)) ≡ false = lt-leb from (orderPlace g start (q .start .0)) (omega arith) in rw (t, l) at turn
 
       pub fits-goes-on : from ≤ at → fitsFrom g start from (pairsFrom (drop i list)) ≡ fitsFrom g start (at + q .len) (pairsFrom (drop (i + 2) list))
       fits-goes-on k =
-          let l : leb from (orderPlace g start (q .start)) ≡ true = le-leb from (orderPlace g start (q .start)) (omega arith) in
-          let r : fitsFrom g start from (pairsFrom (drop i list)) ≡ fitsFrom g start (orderPlace g start (q .start) + q .len) (pairsFrom (drop (i + 2) list)) = rw (t, l) at turn in
+          let l : leb from (orderPlace g start (q .start .0)) ≡ true = le-leb from (orderPlace g start (q .start .0)) (omega arith) in
+          let r : fitsFrom g start from (pairsFrom (drop i list)) ≡ fitsFrom g start (orderPlace g start (q .start .0) + q .len) (pairsFrom (drop (i + 2) list)) = rw (t, l) at turn in
           r ∙ ap (λ (x : ℕ). fitsFrom g start (x + q .len) (pairsFrom (drop (i + 2) list))) (sym e)

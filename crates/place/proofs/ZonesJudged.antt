@@ -39,15 +39,15 @@ module _ (m to : ℕ) (pieces : List ℕ) (n : ℕ) where
   apart-ends at i h = let e : n - i ≡ 0 = omega arith in ap (λ (k : ℕ). apart m at to (piecesFrom pieces i k)) e
 
   module _ (at i : ℕ) (h : i < n) {x : code.Piece} (e : x ≡ pieceIn pieces i) where
-    turn : apart m at to (piecesFrom pieces i (n - i)) ≡ gapFits m at (x .start) && apart m (x .start + x .len) to (piecesFrom pieces (i + 1) (n - (i + 1)))
+    turn : apart m at to (piecesFrom pieces i (n - i)) ≡ gapFits m at (x .start .0) && apart m (x .start .0 + x .len) to (piecesFrom pieces (i + 1) (n - (i + 1)))
     turn =
         ap (apart m at to) (run-first (pieceAt pieces) i (i + 1) (n - i) (n - (i + 1)) (omega arith) (omega arith))
-        ∙ ap (λ (y : code.Piece). gapFits m at (y .start) && apart m (y .start + y .len) to (piecesFrom pieces (i + 1) (n - (i + 1)))) (sym e)
+        ∙ ap (λ (y : code.Piece). gapFits m at (y .start .0) && apart m (y .start .0 + y .len) to (piecesFrom pieces (i + 1) (n - (i + 1)))) (sym e)
 
-    pub apart-fails : gapFits m at (x .start) ≡ false → apart m at to (piecesFrom pieces i (n - i)) ≡ false
+    pub apart-fails : gapFits m at (x .start .0) ≡ false → apart m at to (piecesFrom pieces i (n - i)) ≡ false
     apart-fails t = rw t at turn
 
-    pub apart-goes-on : gapFits m at (x .start) ≡ true → apart m at to (piecesFrom pieces i (n - i)) ≡ apart m (x .start + x .len) to (piecesFrom pieces (i + 1) (n - (i + 1)))
+    pub apart-goes-on : gapFits m at (x .start .0) ≡ true → apart m at to (piecesFrom pieces i (n - i)) ≡ apart m (x .start .0 + x .len) to (piecesFrom pieces (i + 1) (n - (i + 1)))
     apart-goes-on t = rw t at turn
 
 -- one zone

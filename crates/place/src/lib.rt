@@ -13,15 +13,15 @@ ghost use Prim.Native.Nat.{_+_, _*_, _%_, _<_, _≤_};
 ghost use lib.Dec.{eqb, ltb, leb};
 ghost use lib.ListN.{length};
 ghost use Rattle.geometry.specs.Accepted.{AcceptedGeometry};
-ghost use Rattle.geometry.specs.Places.{zoneOf, zoneEnd, discBits};
+ghost use Rattle.geometry.specs.Places.{discBits};
 ghost use Rattle.model.specs.Chain.{pair};
 ghost use Rattle.model.specs.Rules.{zoneBlock};
 ghost use Rattle.model.specs.Shown.{piecesOn};
 ghost use Rattle.map.specs.Accepted.{AcceptedMap};
 ghost use Rattle.edits.specs.Edits.{give};
 ghost use Rattle.edits.specs.Holes.{gapFits, apart, allApart};
-ghost use Rattle.edits.specs.Judge.{pairsFrom, pairFits};
-ghost use Rattle.writer.specs.Parts.{orderPlace, fitsFrom};
+ghost use Rattle.edits.specs.Judge.{pairsFrom, inOneZone, pairFits};
+ghost use Rattle.writer.specs.Parts.{orderPlace, listFitsFrom};
 ghost use Rattle.writer.specs.Listed.{piecesFrom};
 ghost use Rattle.writer.specs.Edited.{PartAsks};
 ghost use Rattle.place.specs.Placed.{Places};
@@ -82,7 +82,7 @@ fn place_list(map: &mut [u8], g: Geometry, id: u32, list: &[u32]) -> Placed
 // place in object order where the pair before ended.
 fn list_fits(g: Geometry, start: usize, list: &[u32]) -> bool
     requires { ⌜ AcceptedGeometry g ⌝ }
-    ensures { λ r. ⌜ r ≡ (ltb 0 (length (now (list .entry))) && eqb (length (now (list .entry)) % 2) 0 && fitsFrom g start 0 (pairsFrom (now (list .entry)))) ⌝ }
+    ensures { λ r. ⌜ r ≡ listFitsFrom g start (now (list .entry)) ⌝ }
 {
     let n = list.len();
     if n == 0 {
@@ -95,7 +95,7 @@ fn list_fits(g: Geometry, start: usize, list: &[u32]) -> bool
     let mut i = 0;
     while i < n {
         let q = writer::pair_at(list, i);
-        let bit = q.start as usize;
+        let bit = q.start;
         let len = q.len as usize;
         if !pair_fits(g, bit, len) {
             return false;
@@ -111,35 +111,36 @@ fn list_fits(g: Geometry, start: usize, list: &[u32]) -> bool
 }
 
 // The rules of one pair: long enough, whole clusters, within the disc map and one zone.
-fn pair_fits(g: Geometry, start: usize, len: usize) -> bool
-    requires { ⌜ AcceptedGeometry g × (start < 4294967296) × (len < 4294967296) ⌝ }
-    ensures { λ r. ⌜ r ≡ pairFits g (pair start len) ⌝ }
+fn pair_fits(g: Geometry, start: DiscBit, len: usize) -> bool
+    requires { ⌜ AcceptedGeometry g × (len < 4294967296) ⌝ }
+    ensures { λ r. ⌜ r ≡ pairFits g (pair (start .0) len) ⌝ }
 {
-    let whole = bits::both(start % g.cluster == 0, len % g.cluster == 0);
-    let sized = bits::both(g.shortest <= len, whole);
-    bits::both(sized, in_one_zone(g, start, start + len))
+    let whole = bits::both(start.0 as usize % g.cluster == 0, len % g.cluster == 0);
+    let sized = bits::both(g.shortest_fragment() <= len, whole);
+    bits::both(sized, in_one_zone(g, start, len))
 }
 
-// Whether the bits from `start` to `end` lie on the disc map and in one zone.
-fn in_one_zone(g: Geometry, start: usize, end: usize) -> bool
-    requires { ⌜ AcceptedGeometry g × (start ≤ end) ⌝ }
-    ensures { λ r. ⌜ r ≡ (leb end (discBits g) && leb end (zoneEnd g (zoneOf g start))) ⌝ }
+// Whether `len` bits from `start` on lie on the disc map and in one zone.
+fn in_one_zone(g: Geometry, start: DiscBit, len: usize) -> bool
+    requires { ⌜ AcceptedGeometry g × (len < 4294967296) ⌝ }
+    ensures { λ r. ⌜ r ≡ inOneZone g (start .0) (start .0 + len) ⌝ }
 {
+    let end = start.0 as usize + len;
     if g.disc_bits() < end {
         return false;
     }
-    end <= g.first_disc_bit(g.zone_of(DiscBit(start)) + 1).0
+    end <= g.first_disc_bit(g.zone_of(start) + 1).0 as usize
 }
 
 // A disc bit's place in object order: bits before the start zone count on round the end of the disc.
-fn order_place(g: Geometry, start: usize, bit: usize) -> usize
-    requires { ⌜ AcceptedGeometry g × (bit ≤ discBits g) ⌝ }
-    ensures { λ r. ⌜ (r ≡ orderPlace g start bit) × (r < 4294967296) ⌝ }
+fn order_place(g: Geometry, start: usize, bit: DiscBit) -> usize
+    requires { ⌜ AcceptedGeometry g × (bit .0 ≤ discBits g) ⌝ }
+    ensures { λ r. ⌜ (r ≡ orderPlace g start (bit .0)) × (r < 4294967296) ⌝ }
 {
-    if start <= g.zone_of(DiscBit(bit)) {
-        return bit;
+    if start <= g.zone_of(bit) {
+        return bit.0 as usize;
     }
-    g.disc_bits() + bit
+    g.disc_bits() + bit.0 as usize
 }
 
 // 13, zone by zone, with nothing written.
@@ -171,37 +172,39 @@ fn zone_fits(map: &[u8], g: Geometry, z: usize, list: &[u32], id: u32, buffer: &
         return true;
     }
     let n = writer::pieces_after(map, g, z, 0, list, id, buffer);
-    let low = g.first_disc_bit(z).0;
-    let high = g.first_disc_bit(z + 1).0;
-    pieces_apart(buffer, n, g.shortest, low, high)
+    let low = g.first_disc_bit(z);
+    let high = g.first_disc_bit(z + 1);
+    pieces_apart(buffer, n, g.shortest_fragment(), low, high)
 }
 
-// Whether the first n of `pieces` lie apart from disc bit `from` to `to`, with no gap of 1 to m - 1 bits.
-fn pieces_apart(pieces: &[u32], n: usize, m: usize, from: usize, to: usize) -> bool
-    requires { ⌜ (3 * n ≤ length (now pieces)) × (m < 4294967296) × (from < 8589934592) ⌝ }
-    ensures { λ r. ⌜ r ≡ apart m from to (piecesFrom (now (pieces .entry)) 0 n) ⌝ }
+// Whether the first n of `pieces` lie apart from `from` to `to`, with no gap of 1 to m - 1 bits. `at` is where the piece before
+// ends: the sum of its start and its length, which need not be a disc bit.
+fn pieces_apart(pieces: &[u32], n: usize, m: usize, from: DiscBit, to: DiscBit) -> bool
+    requires { ⌜ (3 * n ≤ length (now pieces)) × (m < 4294967296) ⌝ }
+    ensures { λ r. ⌜ r ≡ apart m (from .0) (to .0) (piecesFrom (now (pieces .entry)) 0 n) ⌝ }
 {
-    let mut at = from;
+    let mut at = from.0 as usize;
     let mut i = 0;
     while i < n {
         let x = writer::piece_at(pieces, i);
-        let start = x.start as usize;
+        let start = x.start;
         if !gap_fits(m, at, start) {
             return false;
         }
-        at = start + x.len as usize;
+        at = start.0 as usize + x.len as usize;
         i += 1;
     }
     gap_fits(m, at, to)
 }
 
-// No gap, or one of at least m bits.
-fn gap_fits(m: usize, at: usize, next: usize) -> bool
+// No gap from `at` to `next`, or one of at least m bits.
+fn gap_fits(m: usize, at: usize, next: DiscBit) -> bool
     requires { ⌜ (m < 4294967296) × (at < 8589934592) ⌝ }
-    ensures { λ r. ⌜ r ≡ gapFits m at next ⌝ }
+    ensures { λ r. ⌜ r ≡ gapFits m at (next .0) ⌝ }
 {
-    if at == next {
+    let start = next.0 as usize;
+    if at == start {
         return true;
     }
-    at + m <= next
+    at + m <= start
 }

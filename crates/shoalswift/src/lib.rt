@@ -8,23 +8,18 @@ use map::Checked;
 use place::Placed;
 use sweep::Swept;
 ghost use mathlib.Core.Path.{_≡_};
-ghost use lib.ListN.{length};
-ghost use Rattle.edits.specs.Judge as call;
-ghost use Rattle.edits.specs.Steps.{outcome, step};
-ghost use Rattle.map.specs.Checked.{checked, checkNumbers};
+ghost use Rattle.model.specs.Check.{mapRead};
+ghost use Rattle.map.specs.Checked.{checked, checkTold};
 ghost use Rattle.listing.specs.Listed.{objectFound, freeFound, listNumbers};
-ghost use Rattle.listing.specs.Listed as listed;
-ghost use Rattle.address.specs.Address.{addressFound, addressAnswer, addressNumbers};
-ghost use Rattle.sweep.specs.Sweep.{objectSweep, freeSweep, sweepAnswer, sweepNumbers, imageAfter};
-ghost use Rattle.release.specs.Released.{pairsTaken};
-ghost use Rattle.place.specs.Placed as placed;
-ghost use Rattle.claim.specs.Claimed as claimed;
+ghost use Rattle.address.specs.Address.{addressFound, addressTold};
+ghost use Rattle.sweep.specs.Sweep.{objectSweep, freeSweep, sweepNumbers};
 ghost use Rattle.shoalswift.specs.Geometry.{geometryNumbers};
+ghost use Rattle.shoalswift.specs.Told.{ListTold, SweepTold, ReleaseTold, PlaceTold, ClaimTold};
 
 // Checks a map.
 #[no_mangle]
 pub extern "C" fn shoalswift_check(map: &[u8], zone: &mut u32) -> u32
-    ensures { λ r. ⌜ (r, now (zone .exit)) ≡ checkNumbers (checked (now (map .entry))) ⌝ }
+    ensures { λ r. ⌜ (r, now (zone .exit)) ≡ checkTold (mapRead (now (map .entry))) ⌝ }
 {
     match map::check(map) {
         Checked::Accepted(_) => {
@@ -49,7 +44,9 @@ pub extern "C" fn shoalswift_geometry(
     size: &mut u64,
     zone: &mut u32,
 ) -> u32
-    ensures { λ r. ⌜ (r, now (zone .exit), now (sector .exit), now (unit .exit), now (zones .exit), now (ids .exit), now (size .exit)) ≡ geometryNumbers (checked (now (map .entry))) ⌝ }
+    ensures { λ r.
+        ⌜ (r, now (zone .exit), now (sector .exit), now (unit .exit), now (zones .exit), now (ids .exit), now (size .exit))
+        ≡ geometryNumbers (checked (now (map .entry))) ⌝ }
 {
     match map::check(map) {
         Checked::Accepted(g) => {
@@ -82,8 +79,7 @@ pub extern "C" fn shoalswift_list(
     pairs: &mut u64,
     zone: &mut u32,
 ) -> u32
-    ensures answer { λ r. ⌜ (r, now (zone .exit), now (pairs .exit)) ≡ listNumbers (listed.listAnswer (objectFound (now (map .entry)) id (length (now (list .entry))))) ⌝ }
-    ensures list { λ r. ⌜ now (list .exit) ≡ listed.listAfter (now (list .entry)) (objectFound (now (map .entry)) id (length (now (list .entry)))) ⌝ }
+    ensures { λ r. ⌜ ListTold (objectFound (now (map .entry)) id) (now (list .entry)) (r, now (zone .exit), now (pairs .exit)) (now (list .exit)) ⌝ }
 {
     let r = listing::list(map, id, list);
     pairs_told(r, pairs, zone)
@@ -97,8 +93,7 @@ pub extern "C" fn shoalswift_free(
     pairs: &mut u64,
     zone: &mut u32,
 ) -> u32
-    ensures answer { λ r. ⌜ (r, now (zone .exit), now (pairs .exit)) ≡ listNumbers (listed.listAnswer (freeFound (now (map .entry)) (length (now (list .entry))))) ⌝ }
-    ensures list { λ r. ⌜ now (list .exit) ≡ listed.listAfter (now (list .entry)) (freeFound (now (map .entry)) (length (now (list .entry)))) ⌝ }
+    ensures { λ r. ⌜ ListTold (freeFound (now (map .entry))) (now (list .entry)) (r, now (zone .exit), now (pairs .exit)) (now (list .exit)) ⌝ }
 {
     let r = listing::free(map, list);
     pairs_told(r, pairs, zone)
@@ -113,7 +108,7 @@ pub extern "C" fn shoalswift_address(
     address: &mut u64,
     zone: &mut u32,
 ) -> u32
-    ensures { λ r. ⌜ (r, now (zone .exit), now (address .exit)) ≡ addressNumbers (addressAnswer (addressFound (now (map .entry)) n position)) ⌝ }
+    ensures { λ r. ⌜ (r, now (zone .exit), now (address .exit)) ≡ addressTold (addressFound (now (map .entry)) n position) ⌝ }
 {
     match address::address(map, n, position) {
         Reached::At(l) => {
@@ -140,8 +135,7 @@ pub extern "C" fn shoalswift_sweep_object(
     count: &mut u64,
     zone: &mut u32,
 ) -> u32
-    ensures answer { λ r. ⌜ (r, now (zone .exit), now (count .exit)) ≡ sweepNumbers (sweepAnswer first (length (now (image .entry))) (objectSweep (now (map .entry)) id first (length (now (image .entry))))) ⌝ }
-    ensures image { λ r. ⌜ now (image .exit) ≡ imageAfter first fill (now (image .entry)) (objectSweep (now (map .entry)) id first (length (now (image .entry)))) ⌝ }
+    ensures { λ r. ⌜ SweepTold (objectSweep (now (map .entry)) id) first fill (now (image .entry)) (r, now (zone .exit), now (count .exit)) (now (image .exit)) ⌝ }
 {
     let r = sweep::sweep_object(map, image, first, fill, id);
     count_told(r, count, zone)
@@ -157,8 +151,7 @@ pub extern "C" fn shoalswift_sweep_free(
     count: &mut u64,
     zone: &mut u32,
 ) -> u32
-    ensures answer { λ r. ⌜ (r, now (zone .exit), now (count .exit)) ≡ sweepNumbers (sweepAnswer first (length (now (image .entry))) (freeSweep (now (map .entry)) first (length (now (image .entry))))) ⌝ }
-    ensures image { λ r. ⌜ now (image .exit) ≡ imageAfter first fill (now (image .entry)) (freeSweep (now (map .entry)) first (length (now (image .entry)))) ⌝ }
+    ensures { λ r. ⌜ SweepTold (freeSweep (now (map .entry))) first fill (now (image .entry)) (r, now (zone .exit), now (count .exit)) (now (image .exit)) ⌝ }
 {
     let r = sweep::sweep_free(map, image, first, fill);
     count_told(r, count, zone)
@@ -173,9 +166,7 @@ pub extern "C" fn shoalswift_release(
     pairs: &mut u64,
     zone: &mut u32,
 ) -> u32
-    ensures answer { λ r. ⌜ (r, now (zone .exit), now (pairs .exit)) ≡ listNumbers (listed.listAnswer (pairsTaken (outcome (now (map .entry)) (call.release id (length (now (list .entry))))))) ⌝ }
-    ensures bytes { λ r. ⌜ now (map .exit) ≡ step (now (map .entry)) (call.release id (length (now (list .entry)))) ⌝ }
-    ensures list { λ r. ⌜ now (list .exit) ≡ listed.listAfter (now (list .entry)) (pairsTaken (outcome (now (map .entry)) (call.release id (length (now (list .entry)))))) ⌝ }
+    ensures { λ r. ⌜ ReleaseTold (now (map .entry)) id (now (list .entry)) (r, now (zone .exit), now (pairs .exit)) (now (map .exit)) (now (list .exit)) ⌝ }
 {
     let r = release::release(map, id, list);
     pairs_told(r, pairs, zone)
@@ -184,8 +175,7 @@ pub extern "C" fn shoalswift_release(
 // Places a list of pieces under an absent id.
 #[no_mangle]
 pub extern "C" fn shoalswift_place(map: &mut [u8], id: u32, list: &[u32], zone: &mut u32) -> u32
-    ensures answer { λ r. ⌜ (r, now (zone .exit)) ≡ placed.placeNumbers (placed.placeAnswer (outcome (now (map .entry)) (call.place id (now (list .entry))))) ⌝ }
-    ensures bytes { λ r. ⌜ now (map .exit) ≡ step (now (map .entry)) (call.place id (now (list .entry))) ⌝ }
+    ensures { λ r. ⌜ PlaceTold (now (map .entry)) id (now (list .entry)) (r, now (zone .exit)) (now (map .exit)) ⌝ }
 {
     match place::place(map, id, list) {
         Placed::Done => {
@@ -206,11 +196,10 @@ pub extern "C" fn shoalswift_claim(
     size: u64,
     id: &mut u32,
     start: &mut u32,
-    length: &mut u32,
+    len: &mut u32,
     zone: &mut u32,
 ) -> u32
-    ensures answer { λ r. ⌜ (r, now (zone .exit), now (id .exit), now (start .exit), now (length .exit)) ≡ claimed.claimNumbers (claimed.claimAnswer (outcome (now (map .entry)) (call.claim size))) ⌝ }
-    ensures bytes { λ r. ⌜ now (map .exit) ≡ step (now (map .entry)) (call.claim size) ⌝ }
+    ensures { λ r. ⌜ ClaimTold (now (map .entry)) size (r, now (zone .exit), now (id .exit), now (start .exit), now (len .exit)) (now (map .exit)) ⌝ }
 {
     match claim::claim(map, size) {
         Claimed::Piece {
@@ -219,15 +208,15 @@ pub extern "C" fn shoalswift_claim(
             len: n,
         } => {
             *id = i;
-            *start = s;
-            *length = n;
+            *start = s.0;
+            *len = n;
             *zone = 0;
             0
         }
         Claimed::Refused(r) => {
             *id = 0;
             *start = 0;
-            *length = 0;
+            *len = 0;
             *zone = r.zone;
             r.number
         }

@@ -14,6 +14,7 @@ use Rattle.model.specs.Answer.{Answer, refused, answered, unless, andThen}
 use Rattle.model.specs.Chain.{Pair, Entry}
 use Rattle.model.specs.Check.{mapRead}
 use Rattle.model.specs.Pieces.{Piece, piecesOfZones, piecesOf, freeSpans}
+use Rattle.walk.specs.HeldBy.{heldFrom}
 use Rattle.listing.specs.Listed.{present}
 use Rattle.sweep.specs.declared.Swept.{Swept}
 use Rattle.sweep.specs.declared.Swept.the-variants as swept
@@ -49,6 +50,10 @@ pub record Class : Type 0 where
 -- 16: "stretch ending past disc_size", an empty one too
 abbrev pub onDisc : Geometry → ℕ → ℕ → List Pair → Answer Class
 onDisc g first n qs = unless (leb (first + n) (g .size)) 16 (answered (record { unit = g .unit; pairs = qs }))
+
+-- what one holder has on a map that is accepted
+abbrev pub heldSweep : Geometry → ℕ → List ℕ → ℕ → ℕ → Answer Class
+heldSweep g holder m first n = onDisc g first n (heldFrom g holder m 0 (g .zones))
 
 -- an object's pairs, from zone 0 on: to a sweep their order is nothing
 abbrev pub objectSpans : Geometry → ℕ → List (List Entry) → List Pair

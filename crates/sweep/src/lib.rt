@@ -1,4 +1,5 @@
 // Sweeps a stretch of disc image: the fill over every byte of an object, or of free space (document 01, "The calls").
+use geometry::DiscBit;
 use geometry::Geometry;
 use geometry::Refusal;
 use geometry::refuse;
@@ -10,7 +11,7 @@ ghost use lib.Dec.{ltb};
 ghost use lib.ListN.{length, take, drop, replicate};
 ghost use Rattle.map.specs.Accepted.{AcceptedMap};
 ghost use Rattle.walk.specs.HeldBy.{pairIf, heldFrom};
-ghost use Rattle.sweep.specs.Sweep.{sweptBytes, pairCounts, onDisc, objectSweep, freeSweep, Sweeps};
+ghost use Rattle.sweep.specs.Sweep.{sweptBytes, pairCounts, heldSweep, objectSweep, freeSweep, Sweeps};
 ghost use Rattle.sweep.specs.Laws.{SweepLaws};
 
 // How many addresses of the stretch were of the class, or a refusal.
@@ -64,7 +65,7 @@ fn sweep_class(
     fill: u8,
 ) -> Swept
     requires { ⌜ AcceptedMap (now map) g ⌝ }
-    ensures { λ r. ⌜ Sweeps (onDisc g first (length (now (image .entry))) (heldFrom g holder (now (map .entry)) 0 (g .zones))) first fill (now (image .entry)) r (now (image .exit)) ⌝ }
+    ensures { λ r. ⌜ Sweeps (heldSweep g holder (now (map .entry)) first (length (now (image .entry)))) first fill (now (image .entry)) r (now (image .exit)) ⌝ }
 {
     if ends_past(g, first, image.len()) {
         return Swept::Refused(refuse(16));
@@ -119,7 +120,7 @@ fn sweep_held(
 // Fills a pair's part of the stretch at once, if the pair is wanted; answers how many bytes that is.
 fn sweep_line(
     wanted: bool,
-    start: u32,
+    start: DiscBit,
     len: u32,
     unit: usize,
     image: &mut [u8],
@@ -127,13 +128,14 @@ fn sweep_line(
     fill: u8,
 ) -> usize
     requires { ⌜ unit ≤ 4096 ⌝ }
-    ensures bytes { λ r. ⌜ now (image .exit) ≡ sweptBytes unit (pairIf wanted start len) fill first (now (image .entry)) ⌝ }
-    ensures count { λ r. ⌜ r ≡ pairCounts unit (pairIf wanted start len) first (length (now (image .entry))) ⌝ }
+    ensures bytes { λ r. ⌜ now (image .exit) ≡ sweptBytes unit (pairIf wanted (start .0) len) fill first (now (image .entry)) ⌝ }
+    ensures count { λ r. ⌜ r ≡ pairCounts unit (pairIf wanted (start .0) len) first (length (now (image .entry))) ⌝ }
 {
     if wanted {
         let n = image.len();
-        let from = clip(start as usize * unit, first, n);
-        let to = clip((start as usize + len as usize) * unit, first, n);
+        let bit = start.0 as usize;
+        let from = clip(bit * unit, first, n);
+        let to = clip((bit + len as usize) * unit, first, n);
         fill_bytes(image, from, to, fill);
         return to - from;
     }

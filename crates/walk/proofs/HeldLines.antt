@@ -29,7 +29,7 @@ lines-append : (h : ℕ) (ks ls : List Line) → heldLines h (ks ++ ls) ≡ held
 lines-append h [] ls = refl
 lines-append h (k ∷ ks) ls =
     by-test (eqb (k .holder) h)
-    (λ t. rw t (ap (λ (r : List Pair). record { start = k .start; len = k .len } ∷ r) (lines-append h ks ls)))
+    (λ t. rw t (ap (λ (r : List Pair). record { start = k .start .0; len = k .len } ∷ r) (lines-append h ks ls)))
     (λ t. rw t (lines-append h ks ls))
 
 zone-lines : (g : Geometry) (z h : ℕ) (es : List Entry) → heldLines h (map (lineOf g z) es) ≡ inDiscBits g z (heldBy h es)
@@ -71,4 +71,4 @@ module _ (h : ℕ) {m : List ℕ} {g : Geometry} where
 
     -- counted, one line more
     pub line-counted : (n c : ℕ) {all : ℕ} → n + length (heldLines h (remaining m g to w)) ≡ all → c ≡ cond wanted 1 0 → n + c + length others ≡ all
-    line-counted n c e ec = omega (arith, ap length held-step ∙ length-append this others, pair-count wanted (r .line .start) (r .line .len))
+    line-counted n c e ec = omega (arith, ap length held-step ∙ length-append this others, pair-count wanted (r .line .start .0) (r .line .len))

@@ -35,7 +35,7 @@ use Rattle.walk.specs.Remaining.{lineOf, linesIn, linesFrom, linesHere, 
 use Rattle.walk.proofs.ZonesRead.{zone-sound}
 
 abbrev pub walk : ℕ → ℕ → ℕ → Walk
-walk z at chain = record { zone = z; at = at; chain = chain }
+walk z at chain = record { zone = z; at = record { 0 = at }; chain = record { 0 = chain } }
 
 -- a list of two zones and more
 module _ (m : List ℕ) (g : Geometry) where
@@ -96,15 +96,15 @@ module _ {m : List ℕ} {g : Geometry} (z : ℕ) (a : ReadableFrom m g z) where
 
 -- a place after a fragment: at a fragment, or at the zone's end
 module _ {m : List ℕ} {g : Geometry} {w : Walk} (p : Passing m g w) where
-  pub settles-here : ReadableFrom m g (w .zone) → w .at < endBit g → Settles m g w w
+  pub settles-here : ReadableFrom m g (w .zone) → w .at .0 < endBit g → Settles m g w w
   settles-here a h = record { stands = record { ahead = a; passing = λ k. p; inside = λ k. h }; same = λ to u k. refl }
 
-  pub settles-next : endBit g ≤ w .at → (z : ℕ) → z ≡ w .zone + 1 → (r : Walk) → Starts m g z r → Settles m g w r
+  pub settles-next : endBit g ≤ w .at .0 → (z : ℕ) → z ≡ w .zone + 1 → (r : Walk) → Starts m g z r → Settles m g w r
   settles-next h z ez r s =
-      let ea : w .at ≡ endBit g = omega (arith, p .high) in
-      let e : entriesSome (readFrom (g .idlen) (w .at) (endBit g) (w .chain) (byteBits (zoneBlock g m (w .zone)))) ≡ [] =
-      ap (λ (x : ℕ). entriesSome (readFrom (g .idlen) x (endBit g) (w .chain) (byteBits (zoneBlock g m (w .zone))))) ea
-      ∙ none-read (g .idlen) (endBit g) (w .chain) (byteBits (zoneBlock g m (w .zone))) in
+      let ea : w .at .0 ≡ endBit g = omega (arith, p .high) in
+      let e : entriesSome (readFrom (g .idlen) (w .at .0) (endBit g) (w .chain .0) (byteBits (zoneBlock g m (w .zone)))) ≡ [] =
+      ap (λ (x : ℕ). entriesSome (readFrom (g .idlen) x (endBit g) (w .chain .0) (byteBits (zoneBlock g m (w .zone))))) ea
+      ∙ none-read (g .idlen) (endBit g) (w .chain .0) (byteBits (zoneBlock g m (w .zone))) in
       let f : z ≡ suc (w .zone) = omega arith in
       record {
         stands = s .stands;
@@ -127,29 +127,29 @@ module _ {m : List ℕ} {g : Geometry} {w : Walk} (h : w .zone < g .zones) (s : 
   pub in-bits : endBit g ≤ length (zoneBlock g m (w .zone)) * 8
   in-bits = omega (arith, zone-sound a (w .zone) (omega arith) h .sized, a .numbers .bits-in-block)
 
-  pub closes-here : w .at + lengthAt (g .idlen) (w .at) (endBit g) bits ≤ endBit g
+  pub closes-here : w .at .0 + lengthAt (g .idlen) (w .at .0) (endBit g) bits ≤ endBit g
   closes-here =
-      closes (g .idlen) (w .at) (endBit g) (w .chain) bits (omega (arith, a .numbers .idlen-low)) (omega (arith, in-bits, length-byte-bits (zoneBlock g m (w .zone))))
+      closes (g .idlen) (w .at .0) (endBit g) (w .chain .0) bits (omega (arith, a .numbers .idlen-low)) (omega (arith, in-bits, length-byte-bits (zoneBlock g m (w .zone))))
       (s .inside h) (s .passing h .readable)
 
-  module _ {id len : ℕ} (ei : id ≡ idAt (g .idlen) (w .at) bits) (el : len ≡ lengthAt (g .idlen) (w .at) (endBit g) bits) where
-    pub opened-here : Opened (g .idlen) (w .at) (endBit g) (w .chain) bits id len
+  module _ {id len : ℕ} (ei : id ≡ idAt (g .idlen) (w .at .0) bits) (el : len ≡ lengthAt (g .idlen) (w .at .0) (endBit g) bits) where
+    pub opened-here : Opened (g .idlen) (w .at .0) (endBit g) (w .chain .0) bits id len
     opened-here =
-        opened (g .idlen) (w .at) (endBit g) (w .chain) bits (omega (arith, a .numbers .idlen-low)) (omega (arith, in-bits, length-byte-bits (zoneBlock g m (w .zone))))
+        opened (g .idlen) (w .at .0) (endBit g) (w .chain .0) bits (omega (arith, a .numbers .idlen-low)) (omega (arith, in-bits, length-byte-bits (zoneBlock g m (w .zone))))
         (s .inside h) (s .passing h .readable) id len ei el
 
-    pub passes : Passing m g (walk (w .zone) (w .at + len) (nextAfter (w .at) (w .chain) id))
+    pub passes : Passing m g (walk (w .zone) (w .at .0 + len) (nextAfter (w .at .0) (w .chain .0) id))
     passes = record { low = omega (arith, s .passing h .low); high = opened-here .within; readable = read-on opened-here .0 }
 
-    pub advances : {o d : ℕ} {r : Walk} → o ≡ cond (eqb (w .at) (w .chain)) 0 id → d ≡ discBit g (w .zone) (w .at)
-        → Settles m g (walk (w .zone) (w .at + len) (nextAfter (w .at) (w .chain) id)) r
-        → Advances m g w (record { line = record { zone = w .zone; holder = o; start = d; len = len }; after = r })
+    pub advances : {o d : ℕ} {r : Walk} → o ≡ cond (eqb (w .at .0) (w .chain .0)) 0 id → d ≡ discBit g (w .zone) (w .at .0)
+        → Settles m g (walk (w .zone) (w .at .0 + len) (nextAfter (w .at .0) (w .chain .0) id)) r
+        → Advances m g w (record { line = record { zone = w .zone; holder = o; start = record { 0 = d }; len = len }; after = r })
     advances {o} {d} {r} eo ed t =
-        let past : Walk = walk (w .zone) (w .at + len) (nextAfter (w .at) (w .chain) id) in
-        let this : Entry = entry (w .at) (fragmentOf id len) (holderAt (w .at) (w .chain) id) in
-        let e : lineOf g (w .zone) this ≡ record { zone = w .zone; holder = o; start = d; len = len } =
-        (let k : holderNumber (holderAt (w .at) (w .chain) id) ≡ o = holder-number (eqb (w .at) (w .chain)) id ∙ sym eo in
-        λ i. record { zone = w .zone; holder = k i; start = sym ed i; len = len }) in
+        let past : Walk = walk (w .zone) (w .at .0 + len) (nextAfter (w .at .0) (w .chain .0) id) in
+        let this : Entry = entry (w .at .0) (fragmentOf id len) (holderAt (w .at .0) (w .chain .0) id) in
+        let e : lineOf g (w .zone) this ≡ record { zone = w .zone; holder = o; start = record { 0 = d }; len = len } =
+        (let k : holderNumber (holderAt (w .at .0) (w .chain .0) id) ≡ o = holder-number (eqb (w .at .0) (w .chain .0)) id ∙ sym eo in
+        λ i. record { zone = w .zone; holder = k i; start = record { 0 = sym ed i }; len = len }) in
         record {
           stands = t .stands;
           here = refl;
@@ -157,7 +157,7 @@ module _ {m : List ℕ} {g : Geometry} {w : Walk} (h : w .zone < g .zones) (s : 
               here-remain m g to w k
               ∙ ap (λ (x : List Entry). map (lineOf g (w .zone)) x ++ linesFrom g m (suc (w .zone)) (to - suc (w .zone))) (read-on opened-here .1)
               ∙ ap (λ (x : Line). x ∷ (linesHere g m past ++ linesFrom g m (suc (w .zone)) (to - suc (w .zone)))) e
-              ∙ ap (λ (x : List Line). record { zone = w .zone; holder = o; start = d; len = len } ∷ x) (sym (here-remain m g to past k) ∙ sym (t .same to u k));
+              ∙ ap (λ (x : List Line). record { zone = w .zone; holder = o; start = record { 0 = d }; len = len } ∷ x) (sym (here-remain m g to past k) ∙ sym (t .same to u k));
         }
 
 -- one line fewer remains

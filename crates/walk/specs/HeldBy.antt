@@ -2,7 +2,7 @@
 -- pairs in disc bits: of lines, of a zone, and of several zones. Assumes nothing.
 use mathlib.Core.Bool.{Bool, cond}
 use mathlib.Core.List.{List, [], _∷_, _++_, map}
-use Prim.Native.Nat.{ℕ, zero, suc}
+use Prim.Native.Nat.{ℕ, zero, suc, _-_}
 use lib.Dec.{eqb}
 use Rattle.geometry.specs.declared.Geometry.{Geometry}
 use Rattle.model.specs.Chain.{Pair, Entry}
@@ -16,12 +16,12 @@ abbrev pub pairIf : Bool → ℕ → ℕ → List Pair
 pairIf b d n = cond b (record { start = d; len = n } ∷ []) []
 
 abbrev pub linePair : ℕ → Line → List Pair
-linePair h l = pairIf (eqb (l .holder) h) (l .start) (l .len)
+linePair h l = pairIf (eqb (l .holder) h) (l .start .0) (l .len)
 
 -- of lines
 abbrev pub heldLines : ℕ → List Line → List Pair
 heldLines h [] = []
-heldLines h (l ∷ ls) = cond (eqb (l .holder) h) (record { start = l .start; len = l .len } ∷ heldLines h ls) (heldLines h ls)
+heldLines h (l ∷ ls) = cond (eqb (l .holder) h) (record { start = l .start .0; len = l .len } ∷ heldLines h ls) (heldLines h ls)
 
 -- of entries in block bits
 abbrev pub heldBy : ℕ → List Entry → List Pair
@@ -35,7 +35,13 @@ inDiscBits g z qs = map (toDisc g z) qs
 abbrev pub heldIn : Geometry → ℕ → List ℕ → ℕ → List Pair
 heldIn g h m z = inDiscBits g z (heldBy h (entriesIn g z (zoneBlock g m z)))
 
--- of n zones from z on
+-- of n zones from z on, of the zones from one up to another, and of all zones in the object order of a start zone
 abbrev pub heldFrom : Geometry → ℕ → List ℕ → ℕ → ℕ → List Pair
 heldFrom g h m z zero = []
 heldFrom g h m z (suc n) = heldIn g h m z ++ heldFrom g h m (suc z) n
+
+abbrev pub heldBetween : Geometry → ℕ → List ℕ → ℕ → ℕ → List Pair
+heldBetween g h m from to = heldFrom g h m from (to - from)
+
+abbrev pub heldInOrder : Geometry → ℕ → List ℕ → ℕ → List Pair
+heldInOrder g h m start = heldBetween g h m start (g .zones) ++ heldFrom g h m 0 start

@@ -15,7 +15,7 @@ use Rattle.walk.specs.declared.Line.{Line}
 use Rattle.walk.specs.declared.Step.{Step}
 
 abbrev pub lineOf : Geometry → ℕ → Entry → Line
-lineOf g z e = record { zone = z; holder = holderNumber (e .holder); start = discBit g z (e .at .start); len = e .at .len }
+lineOf g z e = record { zone = z; holder = holderNumber (e .holder); start = record { 0 = discBit g z (e .at .start) }; len = e .at .len }
 
 -- of zone z, and of n zones from z on
 abbrev pub linesIn : Geometry → List ℕ → ℕ → List Line
@@ -27,7 +27,7 @@ linesFrom g m z (suc n) = linesIn g m z ++ linesFrom g m (suc z) n
 
 -- of the walk's zone from its place on, and of n zones the first of which is that one
 abbrev pub linesHere : Geometry → List ℕ → Walk → List Line
-linesHere g m w = map (lineOf g (w .zone)) (entriesSome (readFrom (g .idlen) (w .at) (endBit g) (w .chain) (byteBits (zoneBlock g m (w .zone)))))
+linesHere g m w = map (lineOf g (w .zone)) (entriesSome (readFrom (g .idlen) (w .at .0) (endBit g) (w .chain .0) (byteBits (zoneBlock g m (w .zone)))))
 
 abbrev pub linesOn : Geometry → List ℕ → Walk → ℕ → List Line
 linesOn g m w zero = []
@@ -39,15 +39,15 @@ remaining m g to w = linesOn g m w (to - w .zone)
 
 -- after a fragment of a zone that keeps the rules: the rest of the zone can be read
 pub record Passing (m : List ℕ) (g : Geometry) (w : Walk) : Type 0 where
-  pub low : firstBit (w .zone) ≤ w .at
-  pub high : w .at ≤ endBit g
-  pub readable : CanRead (readFrom (g .idlen) (w .at) (endBit g) (w .chain) (byteBits (zoneBlock g m (w .zone))))
+  pub low : firstBit (w .zone) ≤ w .at .0
+  pub high : w .at .0 ≤ endBit g
+  pub readable : CanRead (readFrom (g .idlen) (w .at .0) (endBit g) (w .chain .0) (byteBits (zoneBlock g m (w .zone))))
 
 -- at a fragment, or past the last zone; this zone and all after it can be read
 pub record Stands (m : List ℕ) (g : Geometry) (w : Walk) : Type 0 where
   pub ahead : ReadableFrom m g (w .zone)
   pub passing : w .zone < g .zones → Passing m g w
-  pub inside : w .zone < g .zones → w .at < endBit g
+  pub inside : w .zone < g .zones → w .at .0 < endBit g
 
 -- the contracts: what remains from zone z on, that one line is passed, that a place is settled
 pub record Starts (m : List ℕ) (g : Geometry) (z : ℕ) (w : Walk) : Type 0 where

@@ -3,6 +3,7 @@
 use bits::both;
 use fragment::next_after;
 use geometry::BlockBit;
+use geometry::DiscBit;
 use geometry::Geometry;
 ghost use mathlib.Core.Path.{_≡_};
 ghost use mathlib.Core.Bool.{cond};
@@ -13,19 +14,18 @@ ghost use Rattle.map.specs.Accepted.{ReadableFrom, AcceptedMap};
 ghost use Rattle.walk.specs.Touching.{touchingOf};
 ghost use Rattle.walk.specs.Remaining.{Stands, Passing, Starts, Advances, Settles};
 
-// Where a walk stands: at the fragment that starts at block bit `at` of a zone, where the free chain leads next to block bit `chain`, or
-// past the last zone.
+// Where a walk stands: at the fragment that starts at `at` in a zone, where the free chain leads next to `chain`, or past the last zone.
 pub struct Walk {
     pub zone: usize,
-    pub at: usize,
-    pub chain: usize,
+    pub at: BlockBit,
+    pub chain: BlockBit,
 }
 
 // A fragment: its zone, its holder (0 for a free one), its first disc bit, its length.
 pub struct Line {
     pub zone: usize,
     pub holder: u32,
-    pub start: u32,
+    pub start: DiscBit,
     pub len: u32,
 }
 
@@ -43,13 +43,13 @@ pub fn from_zone(map: &[u8], g: Geometry, z: usize) -> Walk
     if g.zones <= z {
         return Walk {
             zone: z,
-            at: 0,
-            chain: 0,
+            at: BlockBit(0),
+            chain: BlockBit(0),
         };
     }
     let a = z * g.sector;
     let e = a + g.sector;
-    let at = g.zone_first(z).0;
+    let at = g.zone_first(z);
     let chain = zone::first_free(&map[a..e]);
     Walk { zone: z, at, chain }
 }
@@ -61,20 +61,21 @@ pub fn next(map: &[u8], g: Geometry, w: Walk) -> Step
 {
     let z = w.zone;
     let at = w.at;
-    let end = g.zone_end().0;
+    let chain = w.chain;
+    let end = g.zone_end();
     let a = z * g.sector;
     let e = a + g.sector;
     let f = fragment::whole_fragment(&map[a..e], at, end, g.idlen);
     let line = Line {
         zone: z,
-        holder: holder(at == w.chain, f.id),
-        start: g.disc_bit(z, BlockBit(at)).0 as u32,
+        holder: holder(at.0 == chain.0, f.id),
+        start: g.disc_bit(z, at),
         len: f.len as u32,
     };
     let past = Walk {
         zone: z,
-        at: at + f.len,
-        chain: next_after(at, w.chain, f.id as usize),
+        at: BlockBit(at.0 + f.len),
+        chain: next_after(at, chain, f.id as usize),
     };
     let after = settled(map, g, past);
     Step { line, after }
@@ -85,7 +86,7 @@ fn settled(map: &[u8], g: Geometry, w: Walk) -> Walk
     requires { ⌜ ReadableFrom (now map) g (w .zone) × (w .zone < g .zones) × Passing (now map) g w ⌝ }
     ensures { λ r. ⌜ Settles (now (map .entry)) g w r ⌝ }
 {
-    if w.at < g.zone_end().0 {
+    if w.at.0 < g.zone_end().0 {
         return w;
     }
     from_zone(map, g, w.zone + 1)

@@ -64,11 +64,11 @@ module _ (list : List ℕ) (low high : ℕ) (even : length list % 2 ≡ 0) where
 
   -- the pair at entry j as the code has read it
   module _ (j : ℕ) (h : j < length list) (p : j % 2 ≡ 0) {q : code.Pair} (e : q ≡ pairIn list j) where
-    test-is : {b : Bool} → leb low (q .start) && ltb (q .start) high ≡ b → leb low (getD list j 0) && ltb (getD list j 0) high ≡ b
-    test-is t = ap (λ (x : code.Pair). leb low (x .start) && ltb (x .start) high) (sym e) ∙ t
+    test-is : {b : Bool} → leb low (q .start .0) && ltb (q .start .0) high ≡ b → leb low (getD list j 0) && ltb (getD list j 0) high ≡ b
+    test-is t = ap (λ (x : code.Pair). leb low (x .start .0) && ltb (x .start .0) high) (sym e) ∙ t
 
-    pub leading-stops : leb low (q .start) && ltb (q .start) high ≡ false → found j ≡ j
+    pub leading-stops : leb low (q .start .0) && ltb (q .start .0) high ≡ false → found j ≡ j
     leading-stops t = ap (λ (qs : List Pair). j + 2 * length (leading low high qs)) (next-pairs list j (omega arith)) ∙ rw (test-is t) (omega arith)
 
-    pub leading-goes-on : leb low (q .start) && ltb (q .start) high ≡ true → found j ≡ found (j + 2)
+    pub leading-goes-on : leb low (q .start .0) && ltb (q .start .0) high ≡ true → found j ≡ found (j + 2)
     leading-goes-on t = ap (λ (qs : List Pair). j + 2 * length (leading low high qs)) (next-pairs list j (omega arith)) ∙ rw (test-is t) (omega arith)

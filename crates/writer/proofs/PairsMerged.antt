@@ -80,8 +80,8 @@ module _ {id : ℕ} {list pieces : List ℕ} {i j n : ℕ} {all : List Piece} (m
   abbrev xs : List Piece
   xs = ownedPairs id list (j - 1)
 
-  read-start : pq .start ≡ getD list (2 * (j - 1)) 0
-  read-start = ap (λ (y : listed.Pair). y .start) eq
+  read-start : pq .start .0 ≡ getD list (2 * (j - 1)) 0
+  read-start = ap (λ (y : listed.Pair). y .start .0) eq
 
   pairs-are : ownedPairs id list j ≡ xs ++ (q ∷ [])
   pairs-are = run-last (ownedPair id list) j pos
@@ -102,7 +102,7 @@ module _ {id : ℕ} {list pieces : List ℕ} {i j n : ℕ} {all : List Piece} (m
         ∙ ap₂ (λ (y : Piece) (r : List Piece). y ∷ r) (ap (pieceAt new) e ∙ ap (asPiece) (piece-here pieces (i + (j - 1)) x (omega arith))) (pieces-above pieces (i + (j - 1)) x (i + j) (n - (i + j)) (omega arith))
 
   -- the last piece starts after the last pair
-  module _ (t : ltb 0 i && ltb (pq .start) (getD pieces (3 * (i - 1) + 1) 0) ≡ true) where
+  module _ (t : ltb 0 i && ltb (pq .start .0) (getD pieces (3 * (i - 1) + 1) 0) ≡ true) where
     some-piece : 0 < i
     some-piece = ltb-true 0 i (both (ltb 0 i) _ t .0)
 
@@ -120,7 +120,7 @@ module _ {id : ℕ} {list pieces : List ℕ} {i j n : ℕ} {all : List Piece} (m
 
     pair-before : q .at .start < p .at .start
     pair-before =
-        let k : pq .start < getD pieces (3 * (i - 1) + 1) 0 = ltb-true (pq .start) (getD pieces (3 * (i - 1) + 1) 0) (both (ltb 0 i) _ t .1) in
+        let k : pq .start .0 < getD pieces (3 * (i - 1) + 1) 0 = ltb-true (pq .start .0) (getD pieces (3 * (i - 1) + 1) 0) (both (ltb 0 i) _ t .1) in
         omega (arith, read-start)
 
     split : put (ownedPairs id list j) (piecesFrom pieces 0 i) ≡ put (ownedPairs id list j) ys ++ (p ∷ [])
@@ -146,7 +146,7 @@ module _ {id : ℕ} {list pieces : List ℕ} {i j n : ℕ} {all : List Piece} (m
         })
 
   -- the last pair starts after the last piece, or there is no piece
-  module _ (t : ltb 0 i && ltb (pq .start) (getD pieces (3 * (i - 1) + 1) 0) ≡ false) where
+  module _ (t : ltb 0 i && ltb (pq .start .0) (getD pieces (3 * (i - 1) + 1) 0) ≡ false) where
     pieces-before : NotAfter (q .at .start) (piecesFrom pieces 0 i)
     pieces-before =
         by-test (ltb 0 i)
@@ -155,7 +155,7 @@ module _ {id : ℕ} {list pieces : List ℕ} {i j n : ℕ} {all : List Piece} (m
         let p = pieceAt pieces (i - 1) in
         let e : piecesFrom pieces 0 i ≡ ys ++ (p ∷ []) = run-last (pieceAt pieces) i h in
         let w = asc-front 0 ys p (subst (λ (l : List Piece). Ascending 0 l) e (m .pieces-ascend)) in
-        let k : getD pieces (3 * (i - 1) + 1) 0 ≤ pq .start = ltb-false (pq .start) (getD pieces (3 * (i - 1) + 1) 0) (rw s at t) in
+        let k : getD pieces (3 * (i - 1) + 1) 0 ≤ pq .start .0 = ltb-false (pq .start .0) (getD pieces (3 * (i - 1) + 1) 0) (rw s at t) in
         subst (λ (l : List Piece). NotAfter (q .at .start) l) (sym e) (not-after-more (q .at .start) ys p (w .1) (omega (arith, read-start))))
         (λ s. let e : i ≡ 0 = omega (arith, ltb-false 0 i s) in subst (λ (x : ℕ). NotAfter (q .at .start) (piecesFrom pieces 0 x)) (sym e) tt)
 

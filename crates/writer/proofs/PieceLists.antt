@@ -47,26 +47,26 @@ module _ (l : List ℕ) (i : ℕ) (x : code.Piece) where
   s0 = set l (3 * i) (x .owner)
 
   abbrev s1 : List ℕ
-  s1 = set s0 (3 * i + 1) (x .start)
+  s1 = set s0 (3 * i + 1) (x .start .0)
 
   number-other : (k : ℕ) → (k ≡ 3 * i → ⊥) → (k ≡ 3 * i + 1 → ⊥) → (k ≡ 3 * i + 2 → ⊥) → getD (withPiece l i x) k 0 ≡ getD l k 0
-  number-other k n0 n1 n2 = getD-set-other s1 (3 * i + 2) k (x .len) 0 n2 ∙ getD-set-other s0 (3 * i + 1) k (x .start) 0 n1 ∙ getD-set-other l (3 * i) k (x .owner) 0 n0
+  number-other k n0 n1 n2 = getD-set-other s1 (3 * i + 2) k (x .len) 0 n2 ∙ getD-set-other s0 (3 * i + 1) k (x .start .0) 0 n1 ∙ getD-set-other l (3 * i) k (x .owner) 0 n0
 
   pub piece-here : 3 * i + 3 ≤ length l → pieceIn (withPiece l i x) i ≡ x
   piece-here h =
       let e2 : getD (withPiece l i x) (3 * i + 2) 0 ≡ x .len = getD-set-same s1 (3 * i + 2) (x .len) 0 (simp length-set (omega arith)) in
-      let e1 : getD (withPiece l i x) (3 * i + 1) 0 ≡ x .start =
-      getD-set-other s1 (3 * i + 2) (3 * i + 1) (x .len) 0 (λ e. omega arith) ∙ getD-set-same s0 (3 * i + 1) (x .start) 0 (simp length-set (omega arith)) in
+      let e1 : getD (withPiece l i x) (3 * i + 1) 0 ≡ x .start .0 =
+      getD-set-other s1 (3 * i + 2) (3 * i + 1) (x .len) 0 (λ e. omega arith) ∙ getD-set-same s0 (3 * i + 1) (x .start .0) 0 (simp length-set (omega arith)) in
       let e0 : getD (withPiece l i x) (3 * i) 0 ≡ x .owner =
-      getD-set-other s1 (3 * i + 2) (3 * i) (x .len) 0 (λ e. omega arith) ∙ getD-set-other s0 (3 * i + 1) (3 * i) (x .start) 0 (λ e. omega arith) ∙ getD-set-same l (3 * i) (x .owner) 0 (omega arith) in
-      (λ k. record { owner = e0 k; start = e1 k; len = e2 k })
+      getD-set-other s1 (3 * i + 2) (3 * i) (x .len) 0 (λ e. omega arith) ∙ getD-set-other s0 (3 * i + 1) (3 * i) (x .start .0) 0 (λ e. omega arith) ∙ getD-set-same l (3 * i) (x .owner) 0 (omega arith) in
+      (λ k. record { owner = e0 k; start = record { 0 = e1 k }; len = e2 k })
 
   pub piece-other : (j : ℕ) → (j ≡ i → ⊥) → pieceIn (withPiece l i x) j ≡ pieceIn l j
   piece-other j n =
       let e0 = number-other (3 * j) (λ e. n (omega arith)) (λ e. omega arith) (λ e. omega arith) in
       let e1 = number-other (3 * j + 1) (λ e. omega arith) (λ e. n (omega arith)) (λ e. omega arith) in
       let e2 = number-other (3 * j + 2) (λ e. omega arith) (λ e. omega arith) (λ e. n (omega arith)) in
-      (λ k. record { owner = e0 k; start = e1 k; len = e2 k })
+      (λ k. record { owner = e0 k; start = record { 0 = e1 k }; len = e2 k })
 
   pub pieces-below : (n : ℕ) → n ≤ i → piecesFrom (withPiece l i x) 0 n ≡ piecesFrom l 0 n
   pieces-below n h = run-same (pieceAt (withPiece l i x)) (pieceAt l) 0 n (λ k u v. ap asPiece (piece-other k (λ e. omega arith)))

@@ -31,7 +31,7 @@ stays gone holder = not (eqb holder 0) && not (eqb holder gone)
 
 abbrev pub staysOf : ℕ → List Line → List Piece
 staysOf gone [] = []
-staysOf gone (l ∷ ls) = cond (stays gone (l .holder)) (own (l .holder) (pair (l .start) (l .len)) ∷ staysOf gone ls) (staysOf gone ls)
+staysOf gone (l ∷ ls) = cond (stays gone (l .holder)) (own (l .holder) (pair (l .start .0) (l .len)) ∷ staysOf gone ls) (staysOf gone ls)
 
 pub record Staying (gone : ℕ) (all rest : List Line) (old new : List ℕ) (n : ℕ) : Type 0 where
   pub few : n + length rest ≤ length all

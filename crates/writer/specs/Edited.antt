@@ -4,9 +4,7 @@ use mathlib.Core.Bool.{cond}
 use mathlib.Core.List.{List, [], _++_, map}
 use Prim.Native.Nat.{ℕ, _+_, _-_, _*_, _/_, _<_, _≤_}
 use lib.Dec.{eqb, ltb}
-use lib.Bits.{bitXor}
 use lib.ListN.{length, take, drop}
-use Rattle.checks.specs.Cross.{crossOf}
 use Rattle.geometry.specs.declared.Geometry.{Geometry}
 use Rattle.geometry.specs.Places.{firstBit, endBit}
 use Rattle.model.specs.Chain.{Pair}
@@ -20,14 +18,18 @@ use Rattle.edits.specs.Order.{Ascending}
 use Rattle.edits.specs.Edits.{without, put, own, Edit, takes, gives}
 use Rattle.model.specs.Answer.{answered}
 use Rattle.edits.specs.Judge.{Call, pairsFrom, judge}
-use Rattle.edits.specs.Written.{toBlock, written}
+use Rattle.edits.specs.Written.{toBlock}
 use Rattle.edits.specs.Steps.{bytesAfter}
 use Rattle.edits.specs.EditableMap.{EditableMap}
 use Rattle.writer.specs.Parts.{Ordered}
+use Rattle.writer.specs.Listed.{zoneDrawn}
 
--- the owned pieces of zone z in disc bits
+-- the owned pieces of zone z in disc bits, of its block and of a map
 abbrev pub ownedInZone : Geometry → ℕ → List ℕ → List Piece
 ownedInZone g z block = map (pieceToDisc g z) (ownedOf (entriesIn g z block))
+
+abbrev pub zonePieces : Geometry → List ℕ → ℕ → List Piece
+zonePieces g m z = ownedInZone g z (zoneBlock g m z)
 
 -- the pieces that come: none where the id is 0
 abbrev pub coming : ℕ → List Pair → List Piece
@@ -47,21 +49,24 @@ pub record PartAsks (m : List ℕ) (g : Geometry) (z : ℕ) (list : List ℕ) (i
 -- and what there is after the edit can be drawn
 pub record ZoneEdit (m : List ℕ) (g : Geometry) (z gone : ℕ) (list : List ℕ) (id room : ℕ) : Type 0 where
   pub part : PartAsks m g z list id room
-  pub drawable : Drawable (g .idlen) (firstBit z) (endBit g) (map (toBlock g z) (piecesAfter gone id (pairsFrom list) (ownedInZone g z (zoneBlock g m z))))
+  pub drawable : Drawable (g .idlen) (firstBit z) (endBit g) (map (toBlock g z) (piecesAfter gone id (pairsFrom list) (zonePieces g m z)))
 
 -- a zone's block after the edit; without pairs it stays
 abbrev pub zoneAfter : Geometry → ℕ → ℕ → List ℕ → ℕ → ℕ → List ℕ → List ℕ
 zoneAfter g z gone list id change block =
     cond (ltb 0 (length list))
-    (written (g .idlen) (firstBit z) (endBit g) (map (toBlock g z) (piecesAfter gone id (pairsFrom list) (ownedInZone g z block))) (bitXor (crossOf block) change) block)
+    (zoneDrawn g z (piecesAfter gone id (pairsFrom list) (ownedInZone g z block)) change block)
     block
 
--- the map with the block b in zone z
+-- the map with the block b in zone z, and with zone z edited
 abbrev pub zonePut : Geometry → ℕ → List ℕ → List ℕ → List ℕ
 zonePut g z m b =
     let from : ℕ = z * g .sector in
     let size : ℕ = z * g .sector + g .sector - z * g .sector in
     take from m ++ (b ++ drop size (drop from m))
+
+abbrev pub zoneEdited : Geometry → ℕ → ℕ → List ℕ → ℕ → ℕ → List ℕ → List ℕ
+zoneEdited g z gone list id change m = zonePut g z m (zoneAfter g z gone list id change (zoneBlock g m z))
 
 -- the whole edit: `gone` loses these pairs, or `id` is given them
 abbrev pub editOf : ℕ → List Pair → ℕ → Edit

@@ -14,7 +14,7 @@ use Rattle.writer.specs.declared.Pair as code
 
 -- the pair at entry i
 abbrev pub pairIn : List ℕ → ℕ → code.Pair
-pairIn list i = record { start = getD list i 0; len = getD list (i + 1) 0 }
+pairIn list i = record { start = record { 0 = getD list i 0 }; len = getD list (i + 1) 0 }
 
 -- a list that fits, in the object order of some object
 pub record Ordered (g : Geometry) (list : List ℕ) : Type 0 where
@@ -31,6 +31,10 @@ fitsFrom g start from [] = true
 fitsFrom g start from (q ∷ qs) =
     pairFits g q && leb from (orderPlace g start (q .start))
     && fitsFrom g start (orderPlace g start (q .start) + q .len) qs
+
+-- a list that is to be in that order, as `listFits` of edits
+abbrev pub listFitsFrom : Geometry → ℕ → List ℕ → Bool
+listFitsFrom g start list = ltb 0 (length list) && eqb (length list % 2) 0 && fitsFrom g start 0 (pairsFrom list)
 
 -- the first pairs, as long as they start from bit `low` on and before `high`
 abbrev pub leading : ℕ → ℕ → List Pair → List Pair

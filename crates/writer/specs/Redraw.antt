@@ -2,21 +2,13 @@
 use mathlib.Core.Path.{_≡_}
 use mathlib.Core.Bool.{Bool, cond}
 use mathlib.Core.List.{List, [], _++_}
-use Prim.Native.Nat.{ℕ, _*_, _^_, _<_, _≤_}
+use Prim.Native.Nat.{ℕ, suc, _+_, _-_, _*_, _^_, _<_, _≤_}
 use lib.Dec.{ltb}
 use lib.ListN.{take, drop}
-use Rattle.model.specs.Fragments.{fragmentBits}
+use Rattle.bits.specs.Bits.{numberBits}
+use Rattle.model.specs.Fragments.{closed, fragmentBits}
 use Rattle.model.specs.Pieces.{Piece}
 use Rattle.model.specs.Drawing.{GapRoom, gap, firstFree, draw}
-
--- a zone whose bits end at `end`, in a block of n bytes
-pub record ZoneBits (n idlen end : ℕ) : Type 0 where
-  pub idlen-low : 0 < idlen
-  pub idlen-high : idlen ≤ 19
-  pub in-block : end ≤ n * 8
-  pub end-high : end ≤ 8192
-  -- a link reaches every bit of the block
-  pub links-reach : end ≤ 2 ^ idlen
 
 -- a gap from `hole` to `to` that can be drawn in a block of n bytes; the next one is at `next`, 0 where there is none
 pub record GapAsks (n idlen hole to next : ℕ) : Type 0 where
@@ -26,6 +18,10 @@ pub record GapAsks (n idlen hole to next : ℕ) : Type 0 where
   pub to-high : to ≤ 8192
   pub next-high : next ≤ 8192
   pub next-reached : next ≤ 2 ^ idlen
+
+-- the bits with a fragment written at `at`
+abbrev pub fragmentPut : ℕ → ℕ → ℕ → ℕ → List Bool → List Bool
+fragmentPut idlen at len id old = take at old ++ (numberBits idlen id ++ closed (len - suc idlen) (drop (at + len) old))
 
 -- the bits `old` have become `new` by that gap, and `first` is where the first gap starts now
 pub record GapDrawn (idlen hole to next : ℕ) (old new : List Bool) (first : ℕ) : Type 0 where

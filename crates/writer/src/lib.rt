@@ -8,6 +8,7 @@
 // The pairs of an edit are in object order: first those from the start zone on, ascending, then those of the zones before it,
 // ascending. So the pairs of each zone stand together, and a pass over the zones from 0 on finds them one part after another: it
 // starts with the pairs before the start zone, and goes back to entry 0 when it comes to the start zone.
+use geometry::BlockBit;
 use geometry::DiscBit;
 use geometry::Geometry;
 ghost use mathlib.Core.Path.{_≡_};
@@ -17,21 +18,19 @@ ghost use Prim.Native.Nat.{ℕ, suc, _+_, _-_, _*_, _/_, _%_, _^_, _<_, _≤_};
 ghost use lib.Dec.{eqb, ltb};
 ghost use lib.ListN.{length, take, drop};
 ghost use lib.Bits.{bitXor};
-ghost use Rattle.bits.specs.Bits.{byteBits, numberBits};
+ghost use Rattle.bits.specs.Bits.{byteBits};
 ghost use Rattle.checks.specs.Cross.{crossOf, touchedCount};
 ghost use Rattle.geometry.specs.Accepted.{AcceptedGeometry};
-ghost use Rattle.geometry.specs.Places.{firstBit, endBit};
-ghost use Rattle.model.specs.Fragments.{closed};
 ghost use Rattle.model.specs.Pieces as model;
 ghost use Rattle.model.specs.Rules.{zoneBlock};
 ghost use Rattle.map.specs.Accepted.{ReadableFrom};
 ghost use Rattle.edits.specs.Edits.{without, touchedZones};
 ghost use Rattle.edits.specs.Judge.{pairsFrom};
-ghost use Rattle.edits.specs.Written.{toBlock, sealed, written};
+ghost use Rattle.edits.specs.Written.{sealed};
 ghost use Rattle.writer.specs.Parts.{Ordered, leading, IsPart, PassAt, pairIn};
-ghost use Rattle.writer.specs.Redraw.{GapAsks, GapDrawn, Redrawn};
-ghost use Rattle.writer.specs.Listed.{pieceIn, piecesFrom, blockPieces, withPiece, Merging, PiecesAsk, ZoneDrawing};
-ghost use Rattle.writer.specs.Edited.{ownedInZone, piecesAfter, PartAsks, ZoneEdit, zonePut, zoneAfter, editOf, EditAsks, editedMap};
+ghost use Rattle.writer.specs.Redraw.{GapAsks, fragmentPut, GapDrawn};
+ghost use Rattle.writer.specs.Listed.{pieceIn, piecesFrom, withPiece, Merged, MergesOn, ZoneDrawing, ZoneRedrawn, zoneDrawn};
+ghost use Rattle.writer.specs.Edited.{zonePieces, piecesAfter, PartAsks, ZoneEdit, zoneEdited, editOf, EditAsks, editedMap};
 
 // In the zones where the listed pairs lie the pieces of `gone` leave (0 for none), and the pairs come as pieces of `id` (0: none
 // come, as in a release). `buffer` has room for a zone's pieces.
@@ -84,7 +83,7 @@ fn edit_zone(
     buffer: &mut [u32],
 )
     requires { ⌜ ZoneEdit (now map) g z gone (now list) id (length (now buffer)) ⌝ }
-    ensures { λ _. ⌜ now (map .exit) ≡ zonePut g z (now (map .entry)) (zoneAfter g z gone (now (list .entry)) id change (zoneBlock g (now (map .entry)) z)) ⌝ }
+    ensures { λ _. ⌜ now (map .exit) ≡ zoneEdited g z gone (now (list .entry)) id change (now (map .entry)) ⌝ }
 {
     if list.len() == 0 {
         return;
@@ -107,7 +106,8 @@ pub fn pieces_after(
     buffer: &mut [u32],
 ) -> usize
     requires { ⌜ PartAsks (now map) g z (now list) id (length (now buffer)) ⌝ }
-    ensures { λ r. ⌜ (3 * r ≤ length (now (buffer .entry))) × (piecesFrom (now (buffer .exit)) 0 r ≡ piecesAfter gone id (pairsFrom (now (list .entry))) (ownedInZone g z (zoneBlock g (now (map .entry)) z))) ⌝ }
+    ensures few { λ r. ⌜ 3 * r ≤ length (now (buffer .entry)) ⌝ }
+    ensures pieces { λ r. ⌜ piecesFrom (now (buffer .exit)) 0 r ≡ piecesAfter gone id (pairsFrom (now (list .entry))) (zonePieces g (now (map .entry)) z) ⌝ }
 {
     let n = staying(map, g, z, gone, buffer);
     if id == 0 {
@@ -121,19 +121,20 @@ pub fn pieces_after(
 // at most 682 lines.
 fn staying(map: &[u8], g: Geometry, z: usize, gone: u32, buffer: &mut [u32]) -> usize
     requires { ⌜ ReadableFrom (now map) g z × (z < g .zones) × (2048 ≤ length (now buffer)) ⌝ }
-    ensures { λ r. ⌜ (3 * r ≤ 2048) × (piecesFrom (now (buffer .exit)) 0 r ≡ without gone (ownedInZone g z (zoneBlock g (now (map .entry)) z))) ⌝ }
+    ensures { λ r. ⌜ (3 * r ≤ 2048) × (piecesFrom (now (buffer .exit)) 0 r ≡ without gone (zonePieces g (now (map .entry)) z)) ⌝ }
 {
     let mut n = 0;
     let mut w = walk::from_zone(map, g, z);
     while w.zone <= z {
         let s = walk::next(map, g, w);
         let line = s.line;
+        let start = line.start;
         put_piece(
             buffer,
             n,
             Piece {
                 owner: line.holder,
-                start: line.start,
+                start,
                 len: line.len,
             },
         );
@@ -146,7 +147,7 @@ fn staying(map: &[u8], g: Geometry, z: usize, gone: u32, buffer: &mut [u32]) -> 
 // Merges the pairs of a list into n pieces, as pieces of `id`, in place: what starts last goes last.
 fn merge_pairs(pieces: &mut [u32], n: usize, list: &[u32], id: u32)
     requires { ⌜ 3 * (n + length (now list) / 2) ≤ length (now pieces) ⌝ }
-    ensures { λ _. ⌜ ((all : List model.Piece) → Merging id (now (list .entry)) (now (pieces .entry)) n (length (now (list .entry)) / 2) (n + length (now (list .entry)) / 2) all → all ≡ piecesFrom (now (pieces .exit)) 0 (n + length (now (list .entry)) / 2)) ⌝ }
+    ensures { λ _. ⌜ Merged id (now (list .entry)) (now (pieces .entry)) n (now (pieces .exit)) ⌝ }
 {
     let mut i = n;
     let mut j = list.len() / 2;
@@ -167,11 +168,12 @@ struct Left {
 fn move_last(pieces: &mut [u32], i: usize, list: &[u32], j: usize, id: u32) -> Left
     requires { ⌜ (0 < j) × (3 * (i + j) ≤ length (now pieces)) × (2 * j ≤ length (now list)) ⌝ }
     ensures fewer { λ r. ⌜ (r .pieces + r .pairs + 1 ≡ i + j) × (r .pairs ≤ j) ⌝ }
-    ensures same { λ r. ⌜ ((n : ℕ) (all : List model.Piece) → Merging id (now (list .entry)) (now (pieces .entry)) i j n all → Merging id (now (list .entry)) (now (pieces .exit)) (r .pieces) (r .pairs) n all) ⌝ }
+    ensures same { λ r. ⌜ MergesOn id (now (list .entry)) (now (pieces .entry)) i j (now (pieces .exit)) (r .pieces) (r .pairs) ⌝ }
 {
     let last = j - 1;
     let q = pair_at(list, 2 * last);
-    if starts_after(pieces, i, q.start) {
+    let start = q.start;
+    if starts_after(pieces, i, start) {
         let top = i - 1;
         let x = piece_at(pieces, top);
         put_piece(pieces, i + last, x);
@@ -185,7 +187,7 @@ fn move_last(pieces: &mut [u32], i: usize, list: &[u32], j: usize, id: u32) -> L
         i + last,
         Piece {
             owner: id,
-            start: q.start,
+            start,
             len: q.len,
         },
     );
@@ -195,22 +197,22 @@ fn move_last(pieces: &mut [u32], i: usize, list: &[u32], j: usize, id: u32) -> L
     }
 }
 
-// Whether there are pieces and the last of i starts after disc bit `start`.
-fn starts_after(pieces: &[u32], i: usize, start: u32) -> bool
+// Whether there are pieces and the last of i starts after `start`.
+fn starts_after(pieces: &[u32], i: usize, start: DiscBit) -> bool
     requires { ⌜ 3 * i ≤ length (now pieces) ⌝ }
-    ensures { λ r. ⌜ r ≡ (ltb 0 i && ltb start (pieceIn (now (pieces .entry)) (i - 1) .start)) ⌝ }
+    ensures { λ r. ⌜ r ≡ (ltb 0 i && ltb (start .0) (pieceIn (now (pieces .entry)) (i - 1) .start .0)) ⌝ }
 {
     if i == 0 {
         return false;
     }
     let last = piece_at(pieces, i - 1);
-    start < last.start
+    start.0 < last.start.0
 }
 
 // A piece in a list of pieces.
 pub struct Piece {
     pub owner: u32,
-    pub start: u32, // the disc bit
+    pub start: DiscBit,
     pub len: u32,
 }
 
@@ -221,7 +223,7 @@ pub fn piece_at(pieces: &[u32], i: usize) -> Piece
 {
     Piece {
         owner: pieces[3 * i],
-        start: pieces[3 * i + 1],
+        start: DiscBit(pieces[3 * i + 1]),
         len: pieces[3 * i + 2],
     }
 }
@@ -232,13 +234,13 @@ fn put_piece(pieces: &mut [u32], i: usize, x: Piece)
     ensures { λ _. ⌜ now (pieces .exit) ≡ withPiece (now (pieces .entry)) i x ⌝ }
 {
     pieces[3 * i] = x.owner;
-    pieces[3 * i + 1] = x.start;
+    pieces[3 * i + 1] = x.start.0;
     pieces[3 * i + 2] = x.len;
 }
 
-// A pair of a list that is handed in: disc bit, length.
+// A pair of a list that is handed in.
 pub struct Pair {
-    pub start: u32,
+    pub start: DiscBit,
     pub len: u32,
 }
 
@@ -248,7 +250,7 @@ pub fn pair_at(list: &[u32], i: usize) -> Pair
     ensures { λ r. ⌜ r ≡ pairIn (now (list .entry)) i ⌝ }
 {
     Pair {
-        start: list[i],
+        start: DiscBit(list[i]),
         len: list[i + 1],
     }
 }
@@ -266,8 +268,8 @@ pub fn first_part(g: Geometry, list: &[u32]) -> Part
     ensures { λ r. ⌜ PassAt g (now (list .entry)) (r .start) 0 (r .to) ⌝ }
 {
     let first = pair_at(list, 0);
-    let start = g.zone_of(DiscBit(first.start as usize));
-    let to = part_end(list, 0, g.first_disc_bit(start).0, g.disc_bits());
+    let start = g.zone_of(first.start);
+    let to = part_end(list, 0, g.first_disc_bit(start), g.first_disc_bit(g.zones));
     Part {
         start,
         from: to,
@@ -282,8 +284,8 @@ pub fn next_part(g: Geometry, list: &[u32], z: usize, before: Part) -> Part
 {
     let start = before.start;
     let from = part_start(z, start, before.to);
-    let low = g.first_disc_bit(z).0;
-    let high = g.first_disc_bit(z + 1).0;
+    let low = g.first_disc_bit(z);
+    let high = g.first_disc_bit(z + 1);
     let to = part_end(list, from, low, high);
     Part { start, from, to }
 }
@@ -298,16 +300,16 @@ fn part_start(z: usize, start: usize, i: usize) -> usize
     i
 }
 
-// The entry after the pairs from entry i on that start from disc bit `low` on and before `high`.
-fn part_end(list: &[u32], i: usize, low: usize, high: usize) -> usize
+// The entry after the pairs from entry i on that start from `low` on and before `high`.
+fn part_end(list: &[u32], i: usize, low: DiscBit, high: DiscBit) -> usize
     requires { ⌜ (length (now list) % 2 ≡ 0) × (i % 2 ≡ 0) × (i ≤ length (now list)) ⌝ }
-    ensures { λ r. ⌜ (r ≡ i + 2 * length (leading low high (pairsFrom (drop i (now (list .entry)))))) × (r ≤ length (now (list .entry))) ⌝ }
+    ensures { λ r. ⌜ (r ≡ i + 2 * length (leading (low .0) (high .0) (pairsFrom (drop i (now (list .entry)))))) × (r ≤ length (now (list .entry))) ⌝ }
 {
     let mut j = i;
     while j < list.len() {
         let q = pair_at(list, j);
-        let bit = q.start as usize;
-        if !bits::both(low <= bit, bit < high) {
+        let bit = q.start.0;
+        if !bits::both(low.0 <= bit, bit < high.0) {
             return j;
         }
         j += 2;
@@ -319,38 +321,29 @@ fn part_end(list: &[u32], i: usize, low: usize, high: usize) -> usize
 // `change`, and the zone check.
 pub fn draw_zone(block: &mut [u8], z: usize, g: Geometry, pieces: &[u32], n: usize, change: u8)
     requires { ⌜ ZoneDrawing g z (now block) (now pieces) n ⌝ }
-    ensures { λ _. ⌜ now (block .exit) ≡ written (g .idlen) (firstBit z) (endBit g) (map (toBlock g z) (piecesFrom (now (pieces .entry)) 0 n)) (bitXor (crossOf (now (block .entry))) change) (now (block .entry)) ⌝ }
+    ensures { λ _. ⌜ now (block .exit) ≡ zoneDrawn g z (piecesFrom (now (pieces .entry)) 0 n) change (now (block .entry)) ⌝ }
 {
-    let start = g.zone_first(z).0;
-    let end = g.zone_end().0;
-    let low = z * g.bits;
-    let first = draw_pieces(block, start, end, low, g.idlen, pieces, n);
+    let first = draw_pieces(block, z, g, pieces, n);
     seal(block, first, change);
 }
 
 // Draws the first n of `pieces`, from the last to the first, with the gap after each. Answers where the first gap starts,
 // or 0.
-fn draw_pieces(
-    block: &mut [u8],
-    start: usize,
-    end: usize,
-    low: usize,
-    idlen: usize,
-    pieces: &[u32],
-    n: usize,
-) -> usize
-    requires { ⌜ PiecesAsk (length (now block)) start end low idlen (now pieces) n ⌝ }
-    ensures { λ r. ⌜ Redrawn idlen start end (blockPieces low (now (pieces .entry)) 0 n) (byteBits (now (block .entry))) (byteBits (now (block .exit))) r ⌝ }
+fn draw_pieces(block: &mut [u8], z: usize, g: Geometry, pieces: &[u32], n: usize) -> BlockBit
+    requires { ⌜ ZoneDrawing g z (now block) (now pieces) n ⌝ }
+    ensures { λ r. ⌜ ZoneRedrawn g z (piecesFrom (now (pieces .entry)) 0 n) (byteBits (now (block .entry))) (byteBits (now (block .exit))) r ⌝ }
 {
+    let idlen = g.idlen;
+    let start = g.zone_first(z);
     let mut i = n;
-    let mut to = end;
-    let mut next = 0;
+    let mut to = g.zone_end();
+    let mut next = BlockBit(0);
     while 0 < i {
         i -= 1;
         let x = piece_at(pieces, i);
-        let at = DiscBit(x.start as usize).block_bit(low).0;
+        let at = g.block_bit(z, x.start);
         let len = x.len as usize;
-        next = draw_gap(block, at + len, to, next, idlen);
+        next = draw_gap(block, BlockBit(at.0 + len), to, next, idlen);
         write_fragment(block, at, len, x.owner, idlen);
         to = at;
     }
@@ -359,34 +352,40 @@ fn draw_pieces(
 
 // Draws a free fragment from `hole` to `to`, if there are bits between, that leads on to `next`. Answers where the first gap
 // starts now.
-fn draw_gap(block: &mut [u8], hole: usize, to: usize, next: usize, idlen: usize) -> usize
-    requires { ⌜ GapAsks (length (now block)) idlen hole to next ⌝ }
-    ensures { λ r. ⌜ GapDrawn idlen hole to next (byteBits (now (block .entry))) (byteBits (now (block .exit))) r ⌝ }
+fn draw_gap(
+    block: &mut [u8],
+    hole: BlockBit,
+    to: BlockBit,
+    next: BlockBit,
+    idlen: usize,
+) -> BlockBit
+    requires { ⌜ GapAsks (length (now block)) idlen (hole .0) (to .0) (next .0) ⌝ }
+    ensures { λ r. ⌜ GapDrawn idlen (hole .0) (to .0) (next .0) (byteBits (now (block .entry))) (byteBits (now (block .exit))) (r .0) ⌝ }
 {
-    if to <= hole {
+    if to.0 <= hole.0 {
         return next;
     }
-    let link = bits::minus(next, hole) as u32;
-    write_fragment(block, hole, to - hole, link, idlen);
+    let link = bits::minus(next.0, hole.0) as u32;
+    write_fragment(block, hole, to.0 - hole.0, link, idlen);
     hole
 }
 
 // Writes a fragment: its id, zeros, and the closing 1. An id of idlen bits has zeros above them, which fill the fragment.
-fn write_fragment(block: &mut [u8], at: usize, len: usize, id: u32, idlen: usize)
-    requires { ⌜ (idlen < len) × (at + len ≤ length (now block) * 8) × (at + len < 2 ^ 64) × (id < 2 ^ idlen) ⌝ }
-    ensures { λ _. ⌜ byteBits (now (block .exit)) ≡ take at (byteBits (now (block .entry))) ++ (numberBits idlen id ++ closed (len - suc idlen) (drop (at + len) (byteBits (now (block .entry))))) ⌝ }
+fn write_fragment(block: &mut [u8], at: BlockBit, len: usize, id: u32, idlen: usize)
+    requires { ⌜ (idlen < len) × (at .0 + len ≤ length (now block) * 8) × (at .0 + len < 2 ^ 64) × (id < 2 ^ idlen) ⌝ }
+    ensures { λ _. ⌜ byteBits (now (block .exit)) ≡ fragmentPut idlen (at .0) len id (byteBits (now (block .entry))) ⌝ }
 {
-    bits::write_number(block, at, len - 1, id);
-    bits::set_bit(block, at + (len - 1));
+    bits::write_number(block, at.0, len - 1, id);
+    bits::set_bit(block, at.0 + (len - 1));
 }
 
 // Writes FreeLink, cross check and zone check of a block whose allocation bits stand. FreeLink counts from block bit 8 to the
 // first gap.
-fn seal(block: &mut [u8], first: usize, change: u8)
-    requires { ⌜ (4 ≤ length (now block)) × (first ≤ 8192) ⌝ }
-    ensures { λ _. ⌜ now (block .exit) ≡ sealed (first - 8) (bitXor (crossOf (now (block .entry))) change) (drop 4 (now (block .entry))) ⌝ }
+fn seal(block: &mut [u8], first: BlockBit, change: u8)
+    requires { ⌜ (4 ≤ length (now block)) × (first .0 ≤ 8192) ⌝ }
+    ensures { λ _. ⌜ now (block .exit) ≡ sealed (first .0 - 8) (bitXor (crossOf (now (block .entry))) change) (drop 4 (now (block .entry))) ⌝ }
 {
-    let link = 32768 + bits::minus(first, 8);
+    let link = 32768 + bits::minus(first.0, 8);
     block[1] = (link % 256) as u8;
     block[2] = (link / 256) as u8;
     block[3] = block[3] ^ change;

@@ -16,7 +16,7 @@ holderOf onChain id = cond onChain free (owned id)
 
 -- the disc-end rule of a fragment that ends at block bit `to`
 abbrev pub endHolds : Geometry → ℕ → ℕ → Holder → Bool
-endHolds g z to h = isOwned 1 h || leb (discBit g z to) (g .end)
+endHolds g z to h = isOwned 1 h || leb (discBit g z to) (g .end .0)
 
 -- the object 2 rule of a fragment that is the first of its zone, or not
 abbrev pub firstHolds : Geometry → ℕ → Bool → Holder → Bool

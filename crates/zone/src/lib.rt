@@ -1,6 +1,5 @@
 // The zone walker (document 01, "Bits, fragments, chains"). It receives a zone's block, the part of the map from z*S to
-// (z+1)*S, and passes its fragments once, from the first allocation bit to the zone's end. Its numbers are block bits;
-// a disc bit comes of them by `Geometry::disc_bit` alone.
+// (z+1)*S, and passes its fragments once, from the first allocation bit to the zone's end.
 use bits::both;
 use bits::wide;
 use fragment::Found;
@@ -29,22 +28,23 @@ pub fn judge(block: &[u8], z: usize, g: Geometry) -> ZoneVerdict
     requires { ⌜ AcceptedGeometry g × (z < g .zones) × (length (now block) ≡ g .sector) ⌝ }
     ensures { λ r. ⌜ r ≡ verdictOf (zoneRead g z (now (block .entry))) ⌝ }
 {
-    let start = g.zone_first(z).0;
-    let end = g.zone_end().0;
+    let start = g.zone_first(z);
+    let end = g.zone_end();
     let link = free_link(block);
     let mut at = start;
     let mut next = first_free(block);
     let mut owners = true;
-    while at < end {
+    while at.0 < end.0 {
         match fragment::fragment_at(block, at, end, g.idlen, g.cluster) {
             Found::Whole { id, len } => {
                 let n = id as usize;
+                let to = BlockBit(at.0 + len);
                 owners = both(
                     owners,
-                    entry_holds(g, z, at == start, at == next, n, at + len),
+                    entry_holds(g, z, at.0 == start.0, at.0 == next.0, n, to),
                 );
                 next = next_after(at, next, n);
-                at += len;
+                at = to;
             }
             Found::Broken => {
                 return ZoneVerdict::Broken(6);
@@ -54,7 +54,7 @@ pub fn judge(block: &[u8], z: usize, g: Geometry) -> ZoneVerdict
     if link < 32768 {
         return ZoneVerdict::Broken(5);
     }
-    if next != 0 {
+    if next.0 != 0 {
         return ZoneVerdict::Broken(5);
     }
     if owners {
@@ -72,12 +72,12 @@ fn free_link(block: &[u8]) -> usize
 }
 
 // Where the first free fragment starts, or 0 where there is none. FreeLink counts from block bit 8.
-pub fn first_free(block: &[u8]) -> usize
+pub fn first_free(block: &[u8]) -> BlockBit
     requires { ⌜ 4 ≤ length (now block) ⌝ }
-    ensures { λ r. ⌜ (r ≡ onward 8 (linkIn (now (block .entry)))) × (r < 32776) ⌝ }
+    ensures { λ r. ⌜ (r .0 ≡ onward 8 (linkIn (now (block .entry)))) × (r .0 < 32776) ⌝ }
 {
     let link = bits::minus(free_link(block), 32768);
-    fragment::link_from(8, link)
+    fragment::link_from(BlockBit(8), link)
 }
 
 // The id rule: an owner's number lies from 1 to P*nzones - 1.
@@ -91,12 +91,12 @@ fn id_holds(g: Geometry, free: bool, id: usize) -> bool
     g.is_id(1, id)
 }
 
-// The disc-end rule for a fragment that ends at block bit `to`: object 1 owns what ends past the disc.
-fn end_holds(g: Geometry, z: usize, to: usize, free: bool, id: usize) -> bool
-    requires { ⌜ AcceptedGeometry g × (z < g .zones) × (firstBit z ≤ to) × (to ≤ endBit g) ⌝ }
-    ensures { λ r. ⌜ r ≡ endHolds g z to (holderOf free id) ⌝ }
+// The disc-end rule for a fragment that ends at `to`: object 1 owns what ends past the disc.
+fn end_holds(g: Geometry, z: usize, to: BlockBit, free: bool, id: usize) -> bool
+    requires { ⌜ AcceptedGeometry g × (z < g .zones) × (firstBit z ≤ to .0) × (to .0 ≤ endBit g) ⌝ }
+    ensures { λ r. ⌜ r ≡ endHolds g z (to .0) (holderOf free id) ⌝ }
 {
-    let inside = g.disc_bit(z, BlockBit(to)).0 <= g.end;
+    let inside = g.disc_bit(z, to).0 <= g.end.0;
     if free {
         return inside;
     }
@@ -120,9 +120,9 @@ fn first_holds(g: Geometry, z: usize, first: bool, free: bool, id: usize) -> boo
 }
 
 // The three owner rules of one fragment.
-fn entry_holds(g: Geometry, z: usize, first: bool, free: bool, id: usize, to: usize) -> bool
-    requires { ⌜ AcceptedGeometry g × (z < g .zones) × (firstBit z ≤ to) × (to ≤ endBit g) ⌝ }
-    ensures { λ r. ⌜ r ≡ entryHolds g z first to (holderOf free id) ⌝ }
+fn entry_holds(g: Geometry, z: usize, first: bool, free: bool, id: usize, to: BlockBit) -> bool
+    requires { ⌜ AcceptedGeometry g × (z < g .zones) × (firstBit z ≤ to .0) × (to .0 ≤ endBit g) ⌝ }
+    ensures { λ r. ⌜ r ≡ entryHolds g z first (to .0) (holderOf free id) ⌝ }
 {
     both(
         both(id_holds(g, free, id), end_holds(g, z, to, free, id)),

@@ -8,6 +8,7 @@ use Rattle.checks.specs.Words.{zoneCheck, wordsOf, total}
 use Rattle.checks.specs.Maps.{mapA, mapB}
 use Rattle.geometry.specs.declared.Geometry.{Geometry}
 use Rattle.geometry.specs.declared.Refusal.{Refusal}
+use Rattle.geometry.specs.declared.DiscBit.{DiscBit}
 use Rattle.map.specs.declared.Checked.the-variants as check
 use Rattle.listing.specs.declared.Listed.the-variants as listed
 use Rattle.address.specs.declared.Location.{Location}
@@ -34,7 +35,7 @@ count-refused e = let z : _≡_ {A = ℕ} 0 1 = cc in omega arith
 done-refused : {r : Refusal} → given.Done ≡ given.Refused r → ⊥
 done-refused e = let z : _≡_ {A = ℕ} 0 1 = cc in omega arith
 
-piece-refused : {id start len : ℕ} {r : Refusal} → taken.Piece id start len ≡ taken.Refused r → ⊥
+piece-refused : {id : ℕ} {start : DiscBit} {len : ℕ} {r : Refusal} → taken.Piece id start len ≡ taken.Refused r → ⊥
 piece-refused e = let z : _≡_ {A = ℕ} 0 1 = cc in omega arith
 
 -- four bytes of a stretch

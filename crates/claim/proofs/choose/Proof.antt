@@ -15,7 +15,7 @@ taken-of-requires c κs =
     let n = h .before in
     let s = n .before .before in
     let e = hole-at _ (q .0) (q .1 .0) (sym (h .first-hole .ensures) ∙ t .start .given .1) in
-    (s .pre .accepted .readable .numbers, hole-long (s .pre) (s .args .size) (n .need-of .result) (n .need-of .ensures) (q .0) (q .1 .0) e)
+    (s .pre .accepted .readable .numbers, hole-long (s .pre) (s .args .size) (n .need-of .result) (n .need-of .ensures) (q .0 .0) (q .1 .0) e)
 
 returns : tie.Need-returns
 returns c =

@@ -33,18 +33,18 @@ next-requires c κs = (c .if1 .taken, c .before .before .loop .inv .0)
 
 returns : tie.Need-returns Inv-loop μ-loop
 returns c =
-    let d = c .before .before .before .before .before in
+    let d = c .before .before .before .before .before .before in
     let p = d .before .before .before in
     let a = p .before .before .before .args in
     ap holeOf (sym (hole-taken (a .need) (d .next .ensures) (a .g .zones) (omega arith) (d .before .if1 .taken) (sym (c .before .both .ensures) ∙ c .if2 .taken)) ∙ p .loop .inv .1)
 
 loop-less : tie.Need-loop-less Inv-loop μ-loop
-loop-less c = let d = c .before .before .before .before .before .before in fewer (d .next .ensures) (d .before .before .before .before .before .before .args .g .zones) (omega arith) (d .before .if1 .taken)
+loop-less c = let d = c .before .before .before .before .before .before .before in fewer (d .next .ensures) (d .before .before .before .before .before .before .args .g .zones) (omega arith) (d .before .if1 .taken)
 
 loop-again : tie.Need-loop-again Inv-loop μ-loop
 loop-again c =
     let t = c .before .before in
-    let d = t .before .before .before .before in
+    let d = t .before .before .before .before .before in
     let p = d .before .before .before in
     let a = p .before .before .before .args in
     (d .next .ensures .stands, sym (hole-passed (a .need) (d .next .ensures) (a .g .zones) (omega arith) (d .before .if1 .taken) (sym (t .both .ensures) ∙ c .before .if2 .left)) ∙ p .loop .inv .1)

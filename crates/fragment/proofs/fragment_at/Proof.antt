@@ -11,27 +11,27 @@ use Rattle.fragment.proofs.fragment_at.Tie as tie
 
 returns : tie.Need-returns
 returns c =
-    let a = c .before .before .args in
-    not-closed (a .block .now) (a .at) (a .end) (a .idlen) (a .cluster) (search needs) (search needs) (zeros (slice (a .at + a .idlen) (a .end) (byteBits (a .block .now)))) refl (omega arith)
+    let a = c .before .before .before .before .args in
+    not-closed (a .block .now) (a .at .0) (a .end .0) (a .idlen) (a .cluster) (search needs) (search needs) (zeros (slice (a .at .0 + a .idlen) (a .end .0) (byteBits (a .block .now)))) refl (omega arith)
 
 returns-2 : tie.Need-returns-2
 returns-2 c =
-    let a = c .before .before .before .before .args in
-    not-closed (a .block .now) (a .at) (a .end) (a .idlen) (a .cluster) (search needs) (search needs) (zeros (slice (a .at + a .idlen) (a .end) (byteBits (a .block .now)))) refl (omega arith)
+    let a = c .before .before .before .before .before .before .before .before .before .args in
+    not-closed (a .block .now) (a .at .0) (a .end .0) (a .idlen) (a .cluster) (search needs) (search needs) (zeros (slice (a .at .0 + a .idlen) (a .end .0) (byteBits (a .block .now)))) refl (omega arith)
 
 returns-3 : tie.Need-returns-3
 returns-3 c =
-    let a = c .before .before .before .before .before .args in
-    let z : ℕ = zeros (slice (a .at + a .idlen) (a .end) (byteBits (a .block .now))) in
-    let e : c .before .before .closing-bit .result + 1 - a .at ≡ a .idlen + z + 1 = omega arith in
-    not-in-clusters (a .block .now) (a .at) (a .end) (a .idlen) (a .cluster) (search needs) (search needs) z refl (omega arith)
+    let a = c .before .before .before .before .before .before .before .before .before .before .before .before .args in
+    let z : ℕ = zeros (slice (a .at .0 + a .idlen) (a .end .0) (byteBits (a .block .now))) in
+    let e : c .before .before .before .before .before .before .closing-bit .result .0 + 1 - a .at .0 ≡ a .idlen + z + 1 = omega arith in
+    not-in-clusters (a .block .now) (a .at .0) (a .end .0) (a .idlen) (a .cluster) (search needs) (search needs) z refl (omega arith)
     (λ m. c .if3 .taken (ap (λ (x : ℕ). x % a .cluster) e ∙ m))
 
 returns-4 : tie.Need-returns-4
 returns-4 c =
-    let a = c .before .before .before .before .before .before .args in
-    let z : ℕ = zeros (slice (a .at + a .idlen) (a .end) (byteBits (a .block .now))) in
-    whole (a .block .now) (a .at) (a .end) (a .idlen) (a .cluster) (search needs) (search needs) z (c .number .result) (c .before .before .before .closing-bit .result + 1 - a .at)
+    let a = c .before .before .before .before .before .before .before .before .before .before .before .before .before .args in
+    let z : ℕ = zeros (slice (a .at .0 + a .idlen) (a .end .0) (byteBits (a .block .now))) in
+    whole (a .block .now) (a .at .0) (a .end .0) (a .idlen) (a .cluster) (search needs) (search needs) z (c .number .result) (c .before .before .before .before .before .before .before .closing-bit .result .0 + 1 - a .at .0)
     refl (omega arith) (omega arith) (c .before .if3 .left) (c .number .ensures)
 
 pub fragment-at-spec : {M : Type 1} → statement M

@@ -1,7 +1,7 @@
 -- The laws, each from the file that proves it.
 use Rattle.geometry.proofs.Rules.{test-is-rules}
 use Rattle.geometry.proofs.Numbers.{accepted, floppy, divisor}
-use Rattle.geometry.proofs.DiscBits.{block-of-disc, disc-of-block, zone-of-disc, on-the-map}
+use Rattle.geometry.proofs.DiscBits.{block-of-disc, disc-of-block, zone-of-disc, on-the-map, zone-starts, zone-ends}
 use Rattle.geometry.proofs.Starts.{start-in-range, object-690}
 use Rattle.geometry.proofs.geometry_laws.Statement.{statement}
 use Rattle.geometry.proofs.geometry_laws.Tie as tie
@@ -15,6 +15,8 @@ returns c =
       disc-of-block = disc-of-block;
       zone-of-disc = zone-of-disc;
       on-the-map = on-the-map;
+      zone-starts = zone-starts;
+      zone-ends = zone-ends;
       start-in-range = start-in-range;
       floppy = floppy;
       divisor = divisor;

@@ -31,7 +31,7 @@ fields : (c : tie.Else2) → fieldsFit (c .before .before .record-in .result) �
 fields c = let f = c .before .fields-fit in sym (f .ensures) ∙ not-false (f .result) (c .if2 .left)
 
 geometry-from-requires : tie.Need-geometry-from-requires
-geometry-from-requires c κs = test-gives-fields _ (fields c)
+geometry-from-requires c κs = (test-gives-fields _ (fields c), c .before .before .record-in .ensures .2)
 
 geometry-fits-requires : tie.Need-geometry-fits-requires
 geometry-fits-requires c κs =

@@ -4,7 +4,7 @@ use Rattle.geometry.proofs.record_in.Statement.{statement}
 use Rattle.geometry.proofs.record_in.Tie as tie
 
 returns : tie.Need-returns
-returns c = (cc, search needs)
+returns c = (cc, search needs, search needs)
 
 pub record-in-spec : {M : Type 1} → statement M
 record-in-spec =

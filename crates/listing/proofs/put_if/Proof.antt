@@ -17,10 +17,10 @@ slice-write-pairs-2 c =
     simp length-set (omega (arith, wanted-room (a .wanted) (a .at) (length (a .pairs .now)) (c .if1 .taken) (c .before .pre)))
 
 returns : tie.Need-returns
-returns c = let a = c .before .args in wanted-stored (a .wanted) (a .pairs .now) (a .at) (a .start) (a .len) (c .if1 .taken)
+returns c = let a = c .before .args in wanted-stored (a .wanted) (a .pairs .now) (a .at) (a .start .0) (a .len) (c .if1 .taken)
 
 returns-2 : tie.Need-returns-2
-returns-2 c = let a = c .before .args in unwanted-stored (a .wanted) (a .pairs .now) (a .at) (a .start) (a .len) (c .if1 .left)
+returns-2 c = let a = c .before .args in unwanted-stored (a .wanted) (a .pairs .now) (a .at) (a .start .0) (a .len) (c .if1 .left)
 
 pub put-if-spec : {M : Type 1} → statement M
 put-if-spec =

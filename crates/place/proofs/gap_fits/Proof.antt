@@ -5,10 +5,10 @@ use Rattle.place.proofs.gap_fits.Statement.{statement}
 use Rattle.place.proofs.gap_fits.Tie as tie
 
 returns : tie.Need-returns
-returns c = let a = c .before .args in no-gap (a .m) (a .at) (a .next) (c .if1 .taken)
+returns c = let a = c .before .before .args in no-gap (a .m) (a .at) (a .next .0) (c .if1 .taken)
 
 returns-2 : tie.Need-returns-2
-returns-2 c = let a = c .before .args in some-gap (a .m) (a .at) (a .next) (c .if1 .left)
+returns-2 c = let a = c .before .before .args in some-gap (a .m) (a .at) (a .next .0) (c .if1 .left)
 
 pub gap-fits-spec : {M : Type 1} → statement M
-gap-fits-spec = tie.close (tie.spec returns (λ c. search needs) returns-2)
+gap-fits-spec = tie.close (tie.spec (λ c. search needs) returns (λ c. search needs) returns-2)

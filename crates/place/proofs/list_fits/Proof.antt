@@ -48,7 +48,7 @@ order-place-requires c κs =
     let d = f .before .before .before in
     let q = d .pair-at .result in
     let s = d .before .before .before .before .before .before in
-    (s .pre, omega (arith, pair-tested (s .args .g) (pair (q .start) (q .len)) (sym (f .pair-fits .ensures) ∙ not-false (f .pair-fits .result) (c .if3 .left)) .below))
+    (s .pre, omega (arith, pair-tested (s .args .g) (pair (q .start .0) (q .len)) (sym (f .pair-fits .ensures) ∙ not-false (f .pair-fits .result) (c .if3 .left)) .below))
 
 returns-4 : tie.Need-returns-4 Inv-loop μ-loop
 returns-4 c =
@@ -90,7 +90,6 @@ list-fits-spec =
     returns-2
     loop-holds
     pair-at-requires
-    (λ c. search needs)
     (λ c. search needs)
     (λ c κs. search needs)
     returns-3

@@ -61,6 +61,11 @@ returns c =
     let v = zone-verdict (s .pre .0) h (d .next-part .ensures .0) in
     sym (all-fail (a .g) after h (sym v ∙ sym (u .zone-fits .ensures) ∙ not-true (u .zone-fits .result) (c .if1 .taken))) ∙ p .loop .inv .2
 
+add-z : tie.Need-add-z Inv-loop μ-loop
+add-z c =
+    let t = c .before .before .before .before .before .before .before in
+    omega (arith, t .loop-test .taken, t .before .before .before .before .before .before .pre .0 .editable .accepted .readable .numbers .zones-high)
+
 loop-again : tie.Need-loop-again Inv-loop μ-loop
 loop-again c =
     let u = c .before .before .before in
@@ -101,7 +106,7 @@ zones-fit-spec =
     zone-fits-requires
     same-length
     returns
-    (λ c. search needs)
+    add-z
     (λ c. search needs)
     loop-again
     same-length-2

@@ -6,10 +6,10 @@ use Rattle.shoalswift.proofs.shoalswift_address.Statement.{statement}
 use Rattle.shoalswift.proofs.shoalswift_address.Tie as tie
 
 returns : tie.Need-returns
-returns c = ap addressNumbers (sym (c .before .l .given .1) ∙ c .before .before .before .address .ensures .answer)
+returns c = ap addressNumbers (sym (c .before .l .given .1)) ∙ c .before .before .before .address .ensures .numbers
 
 returns-2 : tie.Need-returns-2
-returns-2 c = ap addressNumbers (sym (c .before .r .given .1) ∙ c .before .before .before .address .ensures .answer)
+returns-2 c = ap addressNumbers (sym (c .before .r .given .1)) ∙ c .before .before .before .address .ensures .numbers
 
 pub shoalswift-address-spec : {M : Type 1} → statement M
 shoalswift-address-spec =

@@ -6,10 +6,10 @@ use Rattle.shoalswift.proofs.shoalswift_check.Statement.{statement}
 use Rattle.shoalswift.proofs.shoalswift_check.Tie as tie
 
 returns : tie.Need-returns
-returns c = ap checkNumbers (sym (c .enum-told .given .1) ∙ c .before .before .check .ensures .answer)
+returns c = ap checkNumbers (sym (c .enum-told .given .1)) ∙ c .before .before .check .ensures .numbers
 
 returns-2 : tie.Need-returns-2
-returns-2 c = ap checkNumbers (sym (c .before .r .given .1) ∙ c .before .before .before .check .ensures .answer)
+returns-2 c = ap checkNumbers (sym (c .before .r .given .1)) ∙ c .before .before .before .check .ensures .numbers
 
 pub shoalswift-check-spec : {M : Type 1} → statement M
 shoalswift-check-spec =

@@ -6,10 +6,10 @@ use Rattle.shoalswift.proofs.shoalswift_claim.Statement.{statement}
 use Rattle.shoalswift.proofs.shoalswift_claim.Tie as tie
 
 returns : tie.Need-returns
-returns c = (ap claimNumbers (sym (c .before .i .given .1) ∙ c .before .before .before .before .before .claim .ensures .answer), c .before .before .before .before .before .claim .ensures .bytes)
+returns c = record { numbers = ap claimNumbers (sym (c .before .i .given .1)) ∙ c .before .before .before .before .before .claim .ensures .numbers; bytes = c .before .before .before .before .before .claim .ensures .bytes }
 
 returns-2 : tie.Need-returns-2
-returns-2 c = (ap claimNumbers (sym (c .before .r .given .1) ∙ c .before .before .before .before .before .claim .ensures .answer), c .before .before .before .before .before .claim .ensures .bytes)
+returns-2 c = record { numbers = ap claimNumbers (sym (c .before .r .given .1)) ∙ c .before .before .before .before .before .claim .ensures .numbers; bytes = c .before .before .before .before .before .claim .ensures .bytes }
 
 pub shoalswift-claim-spec : {M : Type 1} → statement M
 shoalswift-claim-spec =

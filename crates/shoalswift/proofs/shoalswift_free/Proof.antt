@@ -1,6 +1,5 @@
 -- The call's answer, as numbers.
-use mathlib.Core.Path.{ap, _∙_}
-use Rattle.listing.specs.Listed.{listNumbers}
+use mathlib.Core.Path.{_∙_}
 use borrow.Author.Needs.{needs}
 use Rattle.shoalswift.proofs.shoalswift_free.Statement.{statement}
 use Rattle.shoalswift.proofs.shoalswift_free.Tie as tie
@@ -8,7 +7,7 @@ use Rattle.shoalswift.proofs.shoalswift_free.Tie as tie
 returns : tie.Need-returns
 returns c =
     let e = c .before .before .before .before .before .free .ensures in
-    (c .pairs-told .ensures ∙ ap listNumbers (e .answer), e .list)
+    record { numbers = c .pairs-told .ensures ∙ e .numbers; list = e .list }
 
 pub shoalswift-free-spec : {M : Type 1} → statement M
 shoalswift-free-spec = tie.close (tie.spec (λ c κs. search needs) (λ c κs. search needs) (λ c. search needs) returns)

@@ -1,6 +1,5 @@
 -- The call's answer, as numbers.
-use mathlib.Core.Path.{ap, _∙_}
-use Rattle.listing.specs.Listed.{listNumbers}
+use mathlib.Core.Path.{_∙_}
 use borrow.Author.Needs.{needs}
 use Rattle.shoalswift.proofs.shoalswift_release.Statement.{statement}
 use Rattle.shoalswift.proofs.shoalswift_release.Tie as tie
@@ -8,7 +7,7 @@ use Rattle.shoalswift.proofs.shoalswift_release.Tie as tie
 returns : tie.Need-returns
 returns c =
     let e = c .before .before .before .before .before .before .before .release .ensures in
-    (c .pairs-told .ensures ∙ ap listNumbers (e .lists .answer), (e .bytes, e .lists .list))
+    record { lists = record { numbers = c .pairs-told .ensures ∙ e .lists .numbers; list = e .lists .list }; bytes = e .bytes }
 
 pub shoalswift-release-spec : {M : Type 1} → statement M
 shoalswift-release-spec =

@@ -1,6 +1,5 @@
 -- The call's answer, as numbers.
-use mathlib.Core.Path.{ap, _∙_}
-use Rattle.sweep.specs.Sweep.{sweepNumbers}
+use mathlib.Core.Path.{_∙_}
 use borrow.Author.Needs.{needs}
 use Rattle.shoalswift.proofs.shoalswift_sweep_object.Statement.{statement}
 use Rattle.shoalswift.proofs.shoalswift_sweep_object.Tie as tie
@@ -8,7 +7,7 @@ use Rattle.shoalswift.proofs.shoalswift_sweep_object.Tie as tie
 returns : tie.Need-returns
 returns c =
     let e = c .before .before .before .before .before .sweep-object .ensures in
-    (c .count-told .ensures ∙ ap sweepNumbers (e .answer), e .image)
+    record { numbers = c .count-told .ensures ∙ e .numbers; image = e .image }
 
 pub shoalswift-sweep-object-spec : {M : Type 1} → statement M
 shoalswift-sweep-object-spec =

@@ -6,16 +6,16 @@ use Rattle.writer.proofs.draw_gap.Statement.{statement}
 use Rattle.writer.proofs.draw_gap.Tie as tie
 
 returns : tie.Need-returns
-returns c = let s = c .before .before in gap-none (s .pre) (byteBits (s .args .block .now)) (c .if1 .taken)
+returns c = let s = c .before .before .before .before in gap-none (s .pre) (byteBits (s .args .block .now)) (c .if1 .taken)
 
 write-fragment-requires : tie.Need-write-fragment-requires
-write-fragment-requires c κs = let m = c .before in gap-fits (m .before .before .before .pre) (m .minus .result) (m .before .if1 .left) (m .minus .ensures)
+write-fragment-requires c κs = let m = c .before .before .before in gap-fits (m .before .before .before .before .before .pre) (m .minus .result) (m .before .if1 .left) (m .minus .ensures)
 
 returns-2 : tie.Need-returns-2
 returns-2 c =
     let w = c .before .before in
-    let m = w .before .before in
-    let s = m .before .before .before in
+    let m = w .before .before .before .before in
+    let s = m .before .before .before .before .before in
     gap-some (s .pre) (byteBits (s .args .block .now)) (byteBits (w .write-fragment .last .0)) (m .minus .result) (m .before .if1 .left) (m .minus .ensures) (w .write-fragment .ensures)
 
 pub draw-gap-spec : {M : Type 1} → statement M

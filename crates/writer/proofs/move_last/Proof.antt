@@ -7,13 +7,13 @@ use Rattle.writer.proofs.move_last.Statement.{statement}
 use Rattle.writer.proofs.move_last.Tie as tie
 
 sub-top : tie.Need-sub-top
-sub-top c = some-pieces (c .before .before .before .before .before .before .args .i) _ (c .before .starts-after .ensures) (c .if1 .taken)
+sub-top c = some-pieces (c .before .before .before .before .before .before .before .args .i) _ (c .before .starts-after .ensures) (c .if1 .taken)
 
 returns : tie.Need-returns
 returns c =
     let u = c .before .before in
     let t = u .before .before .before .before in
-    let q = t .before .before .before in
+    let q = t .before .before .before .before in
     let s = q .before .before .before in
     let a = t .before .starts-after in
     let h = some-pieces (s .args .i) _ (a .ensures) (t .if1 .taken) in
@@ -23,7 +23,7 @@ returns-2 : tie.Need-returns-2
 returns-2 c =
     let u = c .before .before in
     let t = u .before .before in
-    let q = t .before .before .before in
+    let q = t .before .before .before .before in
     let s = q .before .before .before in
     let a = t .before .starts-after in
     ((omega (arith, s .pre), omega arith), λ n all m. merge-pair m (s .pre .0) (s .pre .1) (q .pair-at .ensures) (sym (a .ensures) ∙ t .if1 .left) refl (u .put-piece2 .ensures))

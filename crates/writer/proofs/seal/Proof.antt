@@ -16,7 +16,7 @@ returns : tie.Need-returns
 returns c =
     let m = c .before .before .before in
     let s = m .before .before in
-    seal-is (s .args .block .now) (m .minus .result) (s .args .change) (s .args .first) (c .zone-check .result) (search needs) (m .minus .ensures) (c .zone-check .ensures)
+    seal-is (s .args .block .now) (m .minus .result) (s .args .change) (s .args .first .0) (c .zone-check .result) (search needs) (m .minus .ensures) (c .zone-check .ensures)
 
 pub seal-spec : {M : Type 1} → statement M
 seal-spec =

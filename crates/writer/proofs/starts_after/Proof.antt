@@ -12,9 +12,9 @@ returns c = starts-none (c .before .before .args .i) _ (c .if1 .taken)
 
 returns-2 : tie.Need-returns-2
 returns-2 c =
-    let l = c .before in
+    let l = c .before .before in
     let a = l .before .before .before .args in
-    ap (λ (x : code.Piece). ltb (a .start) (x .start)) (l .piece-at .ensures) ∙ starts-some (a .i) _ (l .before .if1 .left)
+    ap (λ (x : code.Piece). ltb (a .start .0) (x .start .0)) (l .piece-at .ensures) ∙ starts-some (a .i) _ (l .before .if1 .left)
 
 pub starts-after-spec : {M : Type 1} → statement M
 starts-after-spec = tie.close (tie.spec returns (λ c. search needs) (λ c κs. search needs) returns-2)

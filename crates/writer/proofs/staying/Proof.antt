@@ -27,21 +27,21 @@ next-requires c κs =
 
 put-piece-requires : tie.Need-put-piece-requires Inv-loop μ-loop
 put-piece-requires c κs =
-    let d = c .before .before in
+    let d = c .before .before .before in
     let p = d .before .before .before in
     let s = p .before .before .before .before in
     line-room (p .loop .inv .1) (d .next .ensures .passed (s .args .z + 1) (omega (arith, s .pre .1)) (omega (arith, d .before .if1 .taken))) (lines-few (s .pre .0) (s .pre .1)) (s .pre .2)
 
 add-n : tie.Need-add-n Inv-loop μ-loop
 add-n c =
-    let d = c .before .before .before .before .before .before .before .before .before in
+    let d = c .before .before .before .before .before .before .before .before .before .before in
     let p = d .before .before .before in
     let s = p .before .before .before .before in
     omega (arith, p .loop .inv .1 .few, lines-few (s .pre .0) (s .pre .1), c .one .ensures .1)
 
 loop-less : tie.Need-loop-less Inv-loop μ-loop
 loop-less c =
-    let d = c .before .before .before .before .before .before .before .before .before .before in
+    let d = c .before .before .before .before .before .before .before .before .before .before .before in
     let s = d .before .before .before .before .before .before .before in
     fewer (d .next .ensures) (s .args .z + 1) (omega (arith, s .pre .1)) (omega (arith, d .before .if1 .taken))
 
@@ -49,7 +49,7 @@ loop-again : tie.Need-loop-again Inv-loop μ-loop
 loop-again c =
     let o = c .before in
     let u = o .before .before .before .before .before .before in
-    let d = u .before .before .before in
+    let d = u .before .before .before .before in
     let p = d .before .before .before in
     let s = p .before .before .before .before in
     let e = d .next .ensures .passed (s .args .z + 1) (omega (arith, s .pre .1)) (omega (arith, d .before .if1 .taken)) in

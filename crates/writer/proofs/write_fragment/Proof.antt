@@ -14,11 +14,11 @@ use Rattle.writer.proofs.write_fragment.Tie as tie
 
 returns : tie.Need-returns
 returns c =
-    let w = c .before .before .before .before .before .before in
+    let w = c .before .before .before .before .before .before .before in
     let a = w .before .before .before .args in
     c .before .before .set-bit .ensures
-    ∙ ap (λ (B : List Bool). set B (a .at + (a .len - 1)) true) (w .write-number .ensures)
-    ∙ fragment-set (byteBits (a .block .now)) (a .at) (a .len) (a .id) (a .idlen) (search needs) (omega (arith, length-byte-bits (a .block .now))) (search needs)
+    ∙ ap (λ (B : List Bool). set B (a .at .0 + (a .len - 1)) true) (w .write-number .ensures)
+    ∙ fragment-set (byteBits (a .block .now)) (a .at .0) (a .len) (a .id) (a .idlen) (search needs) (omega (arith, length-byte-bits (a .block .now))) (search needs)
 
 pub write-fragment-spec : {M : Type 1} → statement M
 write-fragment-spec =

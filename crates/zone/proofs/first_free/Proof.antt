@@ -15,7 +15,7 @@ onward-high at link = by-test (eqb link 0) (λ t. simp t (omega arith)) (λ t. s
 
 returns : tie.Need-returns
 returns c =
-    let e : c .link-from .result ≡ onward 8 (linkIn (c .before .before .before .before .args .block .now)) =
+    let e : c .link-from .result .0 ≡ onward 8 (linkIn (c .before .before .before .before .args .block .now)) =
     c .link-from .ensures ∙ ap (onward 8) (c .before .minus .ensures ∙ ap (λ (x : ℕ). x - 32768) (c .before .before .free-link .ensures .0)) in
     (e, omega (arith, c .link-from .ensures, onward-high 8 (c .before .minus .result), c .before .minus .ensures, c .before .before .free-link .ensures .1))
 

@@ -1,0 +1,37 @@
+-- What the exported functions promise: the numbers told, as the table gives them for what a call finds, and every lent byte. The numbers
+-- are the refusal (0: accepted), the zone told, and what the call answers besides. Assumes nothing.
+use mathlib.Core.Path.{_≡_}
+use mathlib.Core.List.{List}
+use Prim.Native.Nat.{ℕ}
+use lib.ListN.{length}
+use Rattle.model.specs.Answer.{Answer}
+use Rattle.model.specs.Chain.{Pair}
+use Rattle.edits.specs.Judge.{release, place, claim}
+use Rattle.edits.specs.Steps.{outcome, step}
+use Rattle.listing.specs.Listed.{listTold, listAfter}
+use Rattle.sweep.specs.Sweep.{Class, sweepTold, imageAfter}
+use Rattle.release.specs.Released.{pairsTaken}
+use Rattle.place.specs.Placed.{placeTold}
+use Rattle.claim.specs.Claimed.{claimTold}
+
+-- a listing, by what it finds with so much room
+pub record ListTold (found : ℕ → Answer (List Pair)) (old : List ℕ) (told : ℕ × ℕ × ℕ) (new : List ℕ) : Type 0 where
+  pub numbers : told ≡ listTold (found (length old))
+  pub list : new ≡ listAfter old (found (length old))
+
+-- a sweep, by the class that it finds for a stretch
+pub record SweepTold (found : ℕ → ℕ → Answer Class) (first fill : ℕ) (old : List ℕ) (told : ℕ × ℕ × ℕ) (new : List ℕ) : Type 0 where
+  pub numbers : told ≡ sweepTold first (length old) (found first (length old))
+  pub image : new ≡ imageAfter first fill old (found first (length old))
+
+pub record ReleaseTold (m : List ℕ) (id : ℕ) (old : List ℕ) (told : ℕ × ℕ × ℕ) (after new : List ℕ) : Type 0 where
+  pub lists : ListTold (λ room. pairsTaken (outcome m (release id room))) old told new
+  pub bytes : after ≡ step m (release id (length old))
+
+pub record PlaceTold (m : List ℕ) (id : ℕ) (list : List ℕ) (told : ℕ × ℕ) (after : List ℕ) : Type 0 where
+  pub numbers : told ≡ placeTold (outcome m (place id list))
+  pub bytes : after ≡ step m (place id list)
+
+pub record ClaimTold (m : List ℕ) (size : ℕ) (told : ℕ × ℕ × ℕ × ℕ × ℕ) (after : List ℕ) : Type 0 where
+  pub numbers : told ≡ claimTold (outcome m (claim size))
+  pub bytes : after ≡ step m (claim size)
