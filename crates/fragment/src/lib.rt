@@ -45,11 +45,11 @@ pub fn fragment_at(block: &[u8], at: BlockBit, end: BlockBit, idlen: usize, clus
     if end.0 - at.0 <= idlen {
         return Found::Broken;
     }
-    let last = closing_bit(block, BlockBit(at.0 + idlen), end);
-    if last.0 == end.0 {
+    let close = closing_bit(block, BlockBit(at.0 + idlen), end);
+    if close.0 == end.0 {
         return Found::Broken;
     }
-    let len = last.0 + 1 - at.0;
+    let len = close.0 + 1 - at.0;
     if len % cluster != 0 {
         return Found::Broken;
     }
