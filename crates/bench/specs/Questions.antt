@@ -61,14 +61,18 @@ listed old found = three (listNumbers (listAnswer found)) ++ listAfter old found
 abbrev pub sweepCount : ℕ → ℕ → Answer Class → List ℕ
 sweepCount first n found = three (sweepNumbers (sweepAnswer first n found))
 
+-- the same, and the lent stretch afterwards
+abbrev pub swept : ℕ → ℕ → List ℕ → Answer Class → List ℕ
+swept first fill old found = sweepCount first (length old) found ++ imageAfter first fill old found
+
 abbrev pub answer : Question → List ℕ
 answer (record-read m) = two (recordNumbers (recordOf m))
 answer (check m) = two (checkNumbers (checked m))
 answer (list m id old) = listed old (objectFound m id (length old))
 answer (free m old) = listed old (freeFound m (length old))
 answer (address m n position) = three (addressNumbers (addressAnswer (addressFound m n position)))
-answer (sweepObject m id first fill old) = let found = objectSweep m id first (length old) in sweepCount first (length old) found ++ imageAfter first fill old found
-answer (sweepFree m first fill old) = let found = freeSweep m first (length old) in sweepCount first (length old) found ++ imageAfter first fill old found
+answer (sweepObject m id first fill old) = swept first fill old (objectSweep m id first (length old))
+answer (sweepFree m first fill old) = swept first fill old (freeSweep m first (length old))
 answer (counted m id first n) = sweepCount first n (objectSweep m id first n)
 answer (countedFree m first n) = sweepCount first n (freeSweep m first n)
 answer (release m id old) = listed old (pairsTaken (outcome m (call.release id (length old))))

@@ -7,7 +7,8 @@ use lib.ListN.{replicate}
 use Rattle.geometry.specs.Record.{geometryFrom, geometryOf, floppyDisc, eightZones}
 use Rattle.checks.specs.Maps.{withBytes, mapA, mapB}
 use Rattle.edits.specs.Judge as call
-use Rattle.bench.specs.Questions.{Question, record-read, check, list, free, address, sweepObject, sweepFree, counted, countedFree, release, place, claim, after, start, sizes, bitsFor, change, answer}
+use Rattle.bench.specs.Questions.{Question, record-read, check, list, free, address, sweepObject, sweepFree, counted, countedFree}
+use Rattle.bench.specs.Questions.{release, place, claim, after, start, sizes, bitsFor, change, answer}
 
 pub record Row : Type 0 where
   pub question : Question
@@ -30,11 +31,16 @@ lent = 9 ∷ 9 ∷ 9 ∷ 9 ∷ []
 abbrev mapC : List ℕ
 mapC = withBytes ((0, 0x35) ∷ (65, 0x88) ∷ (66, 0x81) ∷ (67, 0x04) ∷ (68, 0x08) ∷ []) mapA
 
--- A's record with two zones and disc_size 3,637,248: zone 0 free, in zone 1 object 2 at (1536,12) and the rest free
+-- A's record with two zones and disc_size 3,637,248: zone 0 free, in zone 1 object 2 at (1536,12) and the rest free. Zone 0's header,
+-- the disc record, zone 0's allocation bits; zone 1's header, its allocation bits.
 abbrev mapD : List ℕ
 mapD =
     withBytes
-    ((0, 0x31) ∷ (1, 0xF8) ∷ (2, 0x81) ∷ (3, 0xFF) ∷ (4, 0x08) ∷ (8, 0x0B) ∷ (9, 0x0A) ∷ (13, 0x02) ∷ (14, 0x20) ∷ (21, 0x80) ∷ (22, 0x37) ∷ (255, 0x80) ∷ (256, 0x2E) ∷ (257, 0x24) ∷ (258, 0x80) ∷ (260, 0x02) ∷ (261, 0x08) ∷ (511, 0x80) ∷ [])
+    ((0, 0x31) ∷ (1, 0xF8) ∷ (2, 0x81) ∷ (3, 0xFF)
+    ∷ (4, 0x08) ∷ (8, 0x0B) ∷ (9, 0x0A) ∷ (13, 0x02) ∷ (14, 0x20) ∷ (21, 0x80) ∷ (22, 0x37)
+    ∷ (255, 0x80)
+    ∷ (256, 0x2E) ∷ (257, 0x24) ∷ (258, 0x80)
+    ∷ (260, 0x02) ∷ (261, 0x08) ∷ (511, 0x80) ∷ [])
     (replicate 512 0)
 
 abbrev pub table : List Row

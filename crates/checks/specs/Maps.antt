@@ -9,11 +9,14 @@ abbrev pub withBytes : List (ℕ × ℕ) → List ℕ → List ℕ
 withBytes [] m = m
 withBytes (b ∷ bs) m = withBytes bs (set m (b .0) (b .1))
 
--- "Non-zero bytes: 0=C7, 1=04, 2=82, 3=FF, 4=08, 8=0B, 9=0A, 13=01, 14=20, 22=18, 64=02, 65=08, 255=80 (hex values)."
+-- "Non-zero bytes: 0=C7, 1=04, 2=82, 3=FF, 4=08, 8=0B, 9=0A, 13=01, 14=20, 22=18, 64=02, 65=08, 255=80 (hex values)." The header,
+-- the disc record, the allocation bits.
 abbrev pub mapA : List ℕ
 mapA =
     withBytes
-    ((0, 0xC7) ∷ (1, 0x04) ∷ (2, 0x82) ∷ (3, 0xFF) ∷ (4, 0x08) ∷ (8, 0x0B) ∷ (9, 0x0A) ∷ (13, 0x01) ∷ (14, 0x20) ∷ (22, 0x18) ∷ (64, 0x02) ∷ (65, 0x08) ∷ (255, 0x80) ∷ [])
+    ((0, 0xC7) ∷ (1, 0x04) ∷ (2, 0x82) ∷ (3, 0xFF)
+    ∷ (4, 0x08) ∷ (8, 0x0B) ∷ (9, 0x0A) ∷ (13, 0x01) ∷ (14, 0x20) ∷ (22, 0x18)
+    ∷ (64, 0x02) ∷ (65, 0x08) ∷ (255, 0x80) ∷ [])
     (replicate 256 0)
 
 -- "Map B is A with object 5 placed at (12,20): then 0=28, 1=18, 65=58, 67=80."

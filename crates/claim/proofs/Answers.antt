@@ -53,7 +53,7 @@ touching-refuses {m} a size z t = claims m size (refused 9 z) (touching-refused 
 
 -- on a map that edits work on
 module _ {m : List ℕ} {g : Geometry} (ed : EditableMap m g) (size : ℕ) where
-  refuses : (n : ℕ) → judge g (piecesOn g m) (claim size) ≡ refused n 0 → Claims m size (claimed.Refused (refusal n 0)) m
+  refuses : (n : ℕ) → judge g none (piecesOn g m) (claim size) ≡ refused n 0 → Claims m size (claimed.Refused (refusal n 0)) m
   refuses n v = claims m size (refused n 0) (judged-told ed (claim size) (refused n 0) v)
 
   -- 12
@@ -85,7 +85,7 @@ module _ {m : List ℕ} {g : Geometry} (ed : EditableMap m g) (size : ℕ) where
 
   -- what the choice answers is the claim's answer
   module _ (some-bytes : 0 < size) (r : Claimed) (told : r ≡ choiceAnswer (chosen g (piecesOn g m) size)) where
-    judged-chosen : judge g (piecesOn g m) (claim size) ≡ byChoice (chosen g (piecesOn g m) size)
+    judged-chosen : judge g none (piecesOn g m) (claim size) ≡ byChoice (chosen g (piecesOn g m) size)
     judged-chosen = rw (lt-ltb 0 size some-bytes)
 
     pub refusal-claims : (n : Refusal) → r ≡ claimed.Refused n → Claims m size (claimed.Refused n) m
@@ -110,10 +110,10 @@ module _ {m : List ℕ} {g : Geometry} (ed : EditableMap m g) (size : ℕ) where
               let en : q .len ≡ len = ap (λ (x : List Pair). firstPair x .len) (p .3) ∙ cc in
               ec ∙ (λ j. answered (choice (ei j) (sym (p .3) j))) ∙ (λ j. answered (choice id (record { start = es j; len = en j } ∷ [])))
 
-      claim-given : judge g (piecesOn g m) (claim size) ≡ answered (gives id (pair (start .0) len ∷ []))
+      claim-given : judge g none (piecesOn g m) (claim size) ≡ answered (gives id (pair (start .0) len ∷ []))
       claim-given = judged-chosen ∙ ap byChoice picked
 
-      as-place : judge g (piecesOn g m) (place id (start .0 ∷ len ∷ [])) ≡ answered (gives id (pair (start .0) len ∷ []))
+      as-place : judge g none (piecesOn g m) (place id (start .0 ∷ len ∷ [])) ≡ answered (gives id (pair (start .0) len ∷ []))
       as-place = given-placed g (ed .accepted .readable .numbers) (record { pieces = piecesOn g m; cross = [] }) (map-pieces ed) (claim size) id (pair (start .0) len ∷ []) claim-given
 
       pub piece-fits : PieceFits m g id (start .0) len

@@ -2,6 +2,7 @@
 -- 255. Each call keeps that, and a map written from them is accepted.
 use mathlib.Core.Path.{_≡_, refl, sym, ap, _∙_}
 use mathlib.Core.List.{List, [], _∷_}
+use mathlib.Core.Option.{none}
 use Prim.Native.Nat.{ℕ, zero, suc}
 use native.Mathlib.Omega.{arith}
 use lib.ListN.{length}
@@ -59,9 +60,9 @@ pub record AcceptedDisc (g : Geometry) (s : Disc) : Type 0 where
 pub disc-after : (g : Geometry) (ok : AcceptedGeometry g) (s : Disc) (c : Call) → AcceptedDisc g s → AcceptedDisc g (after g s c)
 disc-after g ok s c h = record {
   pieces = accepted-after g ok s (h .pieces) c;
-  count = length-obey g (judge g (s .pieces) c) s ∙ h .count;
-  sum = sum-obey g (judge g (s .pieces) c) s (h .count) ∙ h .sum;
-  bytes = bytes-obey g (judge g (s .pieces) c) s (h .bytes);
+  count = length-obey g (judge g none (s .pieces) c) s ∙ h .count;
+  sum = sum-obey g (judge g none (s .pieces) c) s (h .count) ∙ h .sum;
+  bytes = bytes-obey g (judge g none (s .pieces) c) s (h .bytes);
 }
 
 pub disc-run : (g : Geometry) (ok : AcceptedGeometry g) (s : Disc) (cs : List Call) → AcceptedDisc g s → AcceptedDisc g (run g s cs)

@@ -3,7 +3,7 @@
 use mathlib.Core.Path.{_≡_, sym, ap, _∙_, subst}
 use mathlib.Core.Bool.{true, false}
 use mathlib.Core.List.{List}
-use mathlib.Core.Option.{some}
+use mathlib.Core.Option.{none, some}
 use Prim.Native.Nat.{ℕ}
 use Rattle.geometry.specs.declared.Geometry.{Geometry}
 use Rattle.geometry.specs.declared.Refusal.{Refusal}
@@ -47,7 +47,7 @@ module _ {m : List ℕ} {g : Geometry} (a : AcceptedMap m g) (c : Call) where
 
 -- the verdict
 module _ {m : List ℕ} {g : Geometry} (e : EditableMap m g) (c : Call) where
-  pub judged-told : (v : Answer Edit) → judge g (piecesOn g m) c ≡ v → outcome m c ≡ v
+  pub judged-told : (v : Answer Edit) → judge g none (piecesOn g m) c ≡ v → outcome m c ≡ v
   judged-told v h =
       let d = e .editable in
-      outcome-judged m (zonesOf m) (d .accepted) (d .apart) c ∙ subst (λ (x : Geometry). judge x (piecesOn x m) c ≡ v) (e .accepted .geometry) h
+      outcome-judged m (zonesOf m) (d .accepted) (d .apart) c ∙ subst (λ (x : Geometry). judge x none (piecesOn x m) c ≡ v) (e .accepted .geometry) h

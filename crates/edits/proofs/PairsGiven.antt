@@ -3,6 +3,7 @@
 use mathlib.Core.Path.{_≡_, refl, sym, ap, _∙_, subst}
 use mathlib.Core.Bool.{true, not, _&&_}
 use mathlib.Core.List.{List, [], _∷_}
+use mathlib.Core.Option.{none}
 use Prim.Native.Nat.{ℕ, _%_, _<_}
 use native.Mathlib.Omega.{arith}
 use lib.Dec.{eqb, ltb}
@@ -56,7 +57,7 @@ given-id h = cc
 given-pairs : {id jd : ℕ} {ps qs : List Pair} → gives id ps ≡ gives jd qs → ps ≡ qs
 given-pairs h = cc
 
-pub given-facts : (g : Geometry) (l : List Piece) (c : Call) (id : ℕ) (qs : List Pair) → judge g l c ≡ answered (gives id qs) → GivenFacts g (gives id qs) id qs
+pub given-facts : (g : Geometry) (l : List Piece) (c : Call) (id : ℕ) (qs : List Pair) → judge g none l c ≡ answered (gives id qs) → GivenFacts g (gives id qs) id qs
 given-facts g l (release jd room) id qs h = absurd (taken-given (release-tests g l jd room (gives id qs) h .3))
 given-facts g l (place jd list) id qs h =
     let t = place-tests g l jd list (gives id qs) h in
@@ -75,8 +76,8 @@ given-facts g l (claim size) id qs h =
     }
 
 -- a place of the same pairs
-pub given-placed : (g : Geometry) (ok : AcceptedGeometry g) (s : Disc) → AcceptedPieces g (s .pieces) → (c : Call) (id : ℕ) (qs : List Pair) → judge g (s .pieces) c ≡ answered (gives id qs)
-    → judge g (s .pieces) (place id (numbersOf qs)) ≡ answered (gives id qs)
+pub given-placed : (g : Geometry) (ok : AcceptedGeometry g) (s : Disc) → AcceptedPieces g (s .pieces) → (c : Call) (id : ℕ) (qs : List Pair) → judge g none (s .pieces) c ≡ answered (gives id qs)
+    → judge g none (s .pieces) (place id (numbersOf qs)) ≡ answered (gives id qs)
 given-placed g ok s k c id qs h =
     let l = s .pieces in
     let a = allowed g l c (gives id qs) ok (k .fit) h in

@@ -1,6 +1,7 @@
 -- Runs of calls on pieces and cross checks, as the proofs follow them: what demand 3 says is of bytes (`runs`), and these are
 -- what the bytes stand for.
 use mathlib.Core.List.{List, [], _∷_}
+use mathlib.Core.Option.{none}
 use Prim.Native.Nat.{ℕ, zero, suc}
 use Rattle.geometry.specs.declared.Geometry.{Geometry}
 use Rattle.model.specs.Pieces.{Piece, objectPairs}
@@ -15,7 +16,7 @@ obey g (answered e) s = edit g e s
 
 -- "Each call gets the map as the call before left it"
 abbrev pub after : Geometry → Disc → Call → Disc
-after g s c = obey g (judge g (s .pieces) c) s
+after g s c = obey g (judge g none (s .pieces) c) s
 
 abbrev pub run : Geometry → Disc → List Call → Disc
 run g s [] = s
@@ -28,7 +29,7 @@ kept (answered e) es = e ∷ es
 
 abbrev pub edits : Geometry → Disc → List Call → List Edit
 edits g s [] = []
-edits g s (c ∷ cs) = kept (judge g (s .pieces) c) (edits g (after g s c) cs)
+edits g s (c ∷ cs) = kept (judge g none (s .pieces) c) (edits g (after g s c) cs)
 
 -- The cross checks with the changes that the present pieces stand for taken out: what giving each of n objects its pieces changes,
 -- applied once more. It is the same after every run (`CrossKey`), so the cross checks are a function of the starting map and the

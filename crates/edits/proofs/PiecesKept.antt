@@ -3,6 +3,7 @@
 use mathlib.Core.Path.{_≡_, refl, subst}
 use mathlib.Core.Bool.{true, false, not, _&&_}
 use mathlib.Core.List.{List, [], _∷_, map}
+use mathlib.Core.Option.{none}
 use mathlib.Core.Logic.{inl}
 use Prim.Native.Nat.{ℕ, _*_, _/_, _%_, _<_, _≤_}
 use native.Mathlib.Omega.{arith}
@@ -115,7 +116,7 @@ module _ (g : Geometry) (ok : AcceptedGeometry g) (s : Disc) (k : AcceptedPieces
   by-edit : {a e : Edit} → answered a ≡ answered e → FitPieces g ((edit g e s) .pieces) → (FitPieces g ((edit g a s) .pieces) → AcceptedPieces g ((edit g a s) .pieces)) → AcceptedPieces g ((edit g e s) .pieces)
   by-edit h fit f = subst (λ (x : Edit). FitPieces g ((edit g x s) .pieces) → AcceptedPieces g ((edit g x s) .pieces)) (same-edit h) f fit
 
-  pub accepted-edit : (c : Call) (e : Edit) → judge g (s .pieces) c ≡ answered e → AcceptedPieces g ((edit g e s) .pieces)
+  pub accepted-edit : (c : Call) (e : Edit) → judge g none (s .pieces) c ≡ answered e → AcceptedPieces g ((edit g e s) .pieces)
   accepted-edit (release id room) e h =
       let qs = objectPairs g id l in
       let a = unless-inv (editable g id) 8 (unless (not (isEmpty (piecesOf id l))) 10 (unless (leb (2 * length qs) room) 17 (answered (takes id qs)))) e h in
@@ -140,8 +141,8 @@ module _ (g : Geometry) (ok : AcceptedGeometry g) (s : Disc) (k : AcceptedPieces
       (accepted-give g (t .0) (t .1) l ok (omega (arith, editable-from g (t .0) (i .ordinary))) k (c .fit) (c .long) (chosen-whole g l size (t .0) (t .1) ok (k .clusters) (t .2)))
 
   pub accepted-after : (c : Call) → AcceptedPieces g ((after g s c) .pieces)
-  accepted-after c = go (judge g (s .pieces) c) refl
+  accepted-after c = go (judge g none (s .pieces) c) refl
     where
-      go : (v : Answer Edit) → judge g (s .pieces) c ≡ v → AcceptedPieces g ((obey g v s) .pieces)
+      go : (v : Answer Edit) → judge g none (s .pieces) c ≡ v → AcceptedPieces g ((obey g v s) .pieces)
       go (refused i zone) h = k
       go (answered e) h = accepted-edit c e h

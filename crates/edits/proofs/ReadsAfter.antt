@@ -3,6 +3,7 @@
 use mathlib.Core.Path.{_≡_, sym, ap, _∙_, subst⁻¹}
 use mathlib.Core.Bool.{not}
 use mathlib.Core.List.{List, [], _∷_, map}
+use mathlib.Core.Option.{none}
 use Prim.Native.Nat.{ℕ}
 use borrow.Author.Tests.{eqb-true, ne-eqb}
 use Rattle.geometry.specs.declared.Geometry.{Geometry}
@@ -50,7 +51,7 @@ pub listed-after : (g : Geometry) (s : Disc) (e : Edit) → Allowed g (s .pieces
 listed-after g s (takes id qs) h = (sym h, own-without g id (s .pieces), λ j n. other-without g id j (s .pieces) n)
 listed-after g s (gives id qs) h = (same-pieces g id (s .pieces) [] (h .0), read-back g id qs (s .pieces) h, λ j n. other-give g id j qs (s .pieces) n)
 
-pub reads-after : (g : Geometry) (s : Disc) (c : Call) (e : Edit) → AcceptedGeometry g → FitPieces g (s .pieces) → judge g (s .pieces) c ≡ answered e
+pub reads-after : (g : Geometry) (s : Disc) (c : Call) (e : Edit) → AcceptedGeometry g → FitPieces g (s .pieces) → judge g none (s .pieces) c ≡ answered e
     → ListedAfter g (s .pieces) e ((after g s c) .pieces)
 reads-after g s c e f k h =
     subst⁻¹ (λ (v : Answer Edit). ListedAfter g (s .pieces) e ((obey g v s) .pieces)) h (listed-after g s e ((allowed g (s .pieces) c e f k h) .0))

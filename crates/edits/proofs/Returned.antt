@@ -3,6 +3,7 @@
 use mathlib.Core.Path.{_≡_, refl, sym, ap, _∙_, subst}
 use mathlib.Core.Bool.{Bool, true, false, not, _&&_}
 use mathlib.Core.List.{List, [], _∷_, _++_, map, map-append}
+use mathlib.Core.Option.{none}
 use Prim.Native.Nat.{ℕ, _+_, _*_, _%_, _≤_}
 use native.Mathlib.Omega.{arith}
 use lib.Dec.{eqb, ltb, leb}
@@ -116,7 +117,7 @@ is-empty l e = ap isEmpty e
 
 -- the list that a release returned can be placed
 pub place-back : (g : Geometry) → AcceptedGeometry g → (id : ℕ) (l : List Piece) → FitPieces g l → All (isWhole (g .cluster)) l → editable g id ≡ true → (objectPairs g id l ≡ [] → ⊥)
-    → judge g (without id l) (place id (numbersOf (objectPairs g id l))) ≡ answered (gives id (objectPairs g id l))
+    → judge g none (without id l) (place id (numbersOf (objectPairs g id l))) ≡ answered (gives id (objectPairs g id l))
 place-back g ok id l k al t n =
     let qs = objectPairs g id l in
     let e : pairsFrom (numbersOf qs) ≡ qs = pairs-numbers qs in
@@ -131,7 +132,7 @@ place-back g ok id l k al t n =
 
 -- an object that is there can be released, with room for its list
 pub release-listed : (g : Geometry) (id room : ℕ) (l : List Piece) → editable g id ≡ true → (objectPairs g id l ≡ [] → ⊥) → 2 * length (objectPairs g id l) ≤ room
-    → judge g l (release id room) ≡ answered (takes id (objectPairs g id l))
+    → judge g none l (release id room) ≡ answered (takes id (objectPairs g id l))
 release-listed g id room l t n r =
     let c : not (isEmpty (piecesOf id l)) ≡ true = not-empty (piecesOf id l) (λ x. n (ap (λ (ps : List Piece). map (λ p. p .at) (rotate (late g id) ps)) x)) in
     simp (t, c, le-leb (2 * length (objectPairs g id l)) room r)
@@ -142,7 +143,7 @@ release-listed g id room l t n r =
 
 -- pairs that were given can be released, with room for them
 pub release-back : (g : Geometry) (id room : ℕ) (qs : List Pair) (l : List Piece) → Allowed g l (gives id qs) → editable g id ≡ true → (qs ≡ [] → ⊥) → 2 * length qs ≤ room
-    → judge g (give id qs l) (release id room) ≡ answered (takes id qs)
+    → judge g none (give id qs l) (release id room) ≡ answered (takes id qs)
 release-back g id room qs l h t n r =
     let e : objectPairs g id (give id qs l) ≡ qs = read-back g id qs l h in
     release-listed g id room (give id qs l) t (λ x. n (sym e ∙ x)) (omega (arith, ap length e)) ∙ ap (λ (x : List Pair). answered (takes id x)) e

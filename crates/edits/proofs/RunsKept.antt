@@ -3,6 +3,7 @@
 use mathlib.Core.Path.{_≡_, refl, ap, _∙_, subst}
 use mathlib.Core.Bool.{Bool, true, false, not, _&&_}
 use mathlib.Core.List.{List, [], _∷_}
+use mathlib.Core.Option.{none}
 use Prim.Native.Nat.{ℕ, _*_, _%_}
 use native.Mathlib.Omega.{arith}
 use lib.Dec.{eqb, ltb, leb}
@@ -31,7 +32,7 @@ pub same-edit : {a b : Edit} → answered a ≡ answered b → a ≡ b
 same-edit h = cc
 
 -- the tests that an accepted call has passed, and its edit
-pub release-tests : (g : Geometry) (l : List Piece) (id room : ℕ) (e : Edit) → judge g l (release id room) ≡ answered e
+pub release-tests : (g : Geometry) (l : List Piece) (id room : ℕ) (e : Edit) → judge g none l (release id room) ≡ answered e
     → (editable g id ≡ true) × (not (isEmpty (piecesOf id l)) ≡ true) × (leb (2 * length (objectPairs g id l)) room ≡ true) × (takes id (objectPairs g id l) ≡ e)
 release-tests g l id room e h =
     let qs = objectPairs g id l in
@@ -40,7 +41,7 @@ release-tests g l id room e h =
     let c = unless-inv (leb (2 * length qs) room) 17 (answered (takes id qs)) e (b .1) in
     (a .0, b .0, c .0, same-edit {a = takes id qs} (c .1))
 
-pub place-tests : (g : Geometry) (l : List Piece) (id : ℕ) (list : List ℕ) (e : Edit) → judge g l (place id list) ≡ answered e
+pub place-tests : (g : Geometry) (l : List Piece) (id : ℕ) (list : List ℕ) (e : Edit) → judge g none l (place id list) ≡ answered e
     → (editable g id ≡ true) × (piecesOf id l ≡ []) × (listFits g id list ≡ true) × (allApart g 0 (g .zones) (give id (pairsFrom list) l) ≡ true) × (gives id (pairsFrom list) ≡ e)
 place-tests g l id list e h =
     let a = unless-inv (editable g id) _ _ e h in
@@ -49,7 +50,7 @@ place-tests g l id list e h =
     let d = unless-inv (allApart g 0 (g .zones) (give id (pairsFrom list) l)) _ _ e (c .1) in
     (a .0, empty (piecesOf id l) (b .0), c .0, d .0, same-edit (d .1))
 
-pub claim-tests : (g : Geometry) (l : List Piece) (size : ℕ) (e : Edit) → judge g l (claim size) ≡ answered e → (id : ℕ) × (qs : List Pair) × (chosen g l size ≡ answered (choice id qs)) × (gives id qs ≡ e)
+pub claim-tests : (g : Geometry) (l : List Piece) (size : ℕ) (e : Edit) → judge g none l (claim size) ≡ answered e → (id : ℕ) × (qs : List Pair) × (chosen g l size ≡ answered (choice id qs)) × (gives id qs ≡ e)
 claim-tests g l size e h = go (chosen g l size) refl (unless-inv (ltb 0 size) 12 (byChoice (chosen g l size)) e h .1)
   where
     go : (o : Answer Choice) → chosen g l size ≡ o → byChoice o ≡ answered e → (id : ℕ) × (qs : List Pair) × (chosen g l size ≡ answered (choice id qs)) × (gives id qs ≡ e)
@@ -61,7 +62,7 @@ abbrev pub EditFits : Geometry → List Piece → Edit → Type 0
 EditFits g l e = Allowed g l e × ((cross : List ℕ) → FitPieces g ((edit g e (record { pieces = l; cross = cross })) .pieces))
 
 -- what an accepted call edits
-pub allowed : (g : Geometry) (l : List Piece) (c : Call) (e : Edit) → AcceptedGeometry g → FitPieces g l → judge g l c ≡ answered e → EditFits g l e
+pub allowed : (g : Geometry) (l : List Piece) (c : Call) (e : Edit) → AcceptedGeometry g → FitPieces g l → judge g none l c ≡ answered e → EditFits g l e
 allowed g l (release id room) e f k h =
     subst (EditFits g l) (release-tests g l id room e h .3) (refl, λ x. fit-without g id l k)
 allowed g l (place id list) e f k h =
@@ -79,9 +80,9 @@ allowed g l (claim size) e f k h =
 -- a run is a trace of its edits
 pub traced : (g : Geometry) (s : Disc) (cs : List Call) → AcceptedGeometry g → FitPieces g (s .pieces) → Trace g s (edits g s cs) (run g s cs)
 traced g s [] f k = refl
-traced g s (c ∷ cs) f k = go (judge g (s .pieces) c) refl (λ r h. traced g r cs f h)
+traced g s (c ∷ cs) f k = go (judge g none (s .pieces) c) refl (λ r h. traced g r cs f h)
   where
-    go : (v : Answer Edit) → judge g (s .pieces) c ≡ v → ((r : Disc) → FitPieces g (r .pieces) → Trace g r (edits g r cs) (run g r cs))
+    go : (v : Answer Edit) → judge g none (s .pieces) c ≡ v → ((r : Disc) → FitPieces g (r .pieces) → Trace g r (edits g r cs) (run g r cs))
         → Trace g s (kept v (edits g (obey g v s) cs)) (run g (obey g v s) cs)
     go (refused n zone) h ih = ih s k
     go (answered e) h ih = let a = allowed g (s .pieces) c e f k h in (a .0, ih (edit g e s) (a .1 (s .cross)))
@@ -93,9 +94,9 @@ run-undone g s cs f k u = undone g s (run g s cs) u (fit-asc g (s .pieces) f k) 
 -- a run keeps the invariant
 pub run-fit : (g : Geometry) (s : Disc) (cs : List Call) → AcceptedGeometry g → FitPieces g (s .pieces) → FitPieces g ((run g s cs) .pieces)
 run-fit g s [] f k = k
-run-fit g s (c ∷ cs) f k = go (judge g (s .pieces) c) refl (λ r h. run-fit g r cs f h)
+run-fit g s (c ∷ cs) f k = go (judge g none (s .pieces) c) refl (λ r h. run-fit g r cs f h)
   where
-    go : (v : Answer Edit) → judge g (s .pieces) c ≡ v → ((r : Disc) → FitPieces g (r .pieces) → FitPieces g ((run g r cs) .pieces)) → FitPieces g ((run g (obey g v s) cs) .pieces)
+    go : (v : Answer Edit) → judge g none (s .pieces) c ≡ v → ((r : Disc) → FitPieces g (r .pieces) → FitPieces g ((run g r cs) .pieces)) → FitPieces g ((run g (obey g v s) cs) .pieces)
     go (refused n zone) h ih = ih s k
     go (answered e) h ih = let a = allowed g (s .pieces) c e f k h in ih (edit g e s) (a .1 (s .cross))
 
@@ -106,7 +107,7 @@ cross-edit g (gives id qs) s = refl
 
 pub run-cross : (g : Geometry) (s : Disc) (cs : List Call) → (run g s cs) .cross ≡ crossRun g (edits g s cs) (s .cross)
 run-cross g s [] = refl
-run-cross g s (c ∷ cs) = go (judge g (s .pieces) c) (λ r. run-cross g r cs)
+run-cross g s (c ∷ cs) = go (judge g none (s .pieces) c) (λ r. run-cross g r cs)
   where
     go : (v : Answer Edit) → ((r : Disc) → (run g r cs) .cross ≡ crossRun g (edits g r cs) (r .cross)) → (run g (obey g v s) cs) .cross ≡ crossRun g (kept v (edits g (obey g v s) cs)) (s .cross)
     go (refused n zone) ih = ih s

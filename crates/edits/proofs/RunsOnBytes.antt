@@ -81,13 +81,13 @@ module _ (m : List ℕ) (ess : List (List Entry)) (bytes : Bytes m) (accepted : 
       (bytes-new g m (map-of m ess bytes accepted) (run g (discOf m ess) cs) (disc-run g (map-geometry m ess bytes accepted) (discOf m ess) cs (map-disc m ess bytes accepted)))
 
   -- one call that is refused leaves every byte
-  pub step-refused : (c : Call) (n z : ℕ) → judge (geometryOf m) ((discOf m ess) .pieces) c ≡ refused n z → (outcome m c ≡ refused n z) × (step m c ≡ m)
+  pub step-refused : (c : Call) (n z : ℕ) → judge (geometryOf m) none ((discOf m ess) .pieces) c ≡ refused n z → (outcome m c ≡ refused n z) × (step m c ≡ m)
   step-refused c n z h =
       let o : outcome m c ≡ refused n z = outcome-judged m ess accepted apart c ∙ h in
       (o, ap (bytesAfter m) o)
 
   -- one call that is accepted: the map is written from the pieces and cross checks after its edit, and accepted again with these
-  pub step-accepted : (c : Call) (e : Edit) → judge (geometryOf m) ((discOf m ess) .pieces) c ≡ answered e
+  pub step-accepted : (c : Call) (e : Edit) → judge (geometryOf m) none ((discOf m ess) .pieces) c ≡ answered e
       → (outcome m c ≡ answered e)
       × (step m c ≡ flat (rewritten (geometryOf m) (blocksOf (geometryOf m) m) (edit (geometryOf m) e (discOf m ess))))
       × ReadsAs (geometryOf m) (edit (geometryOf m) e (discOf m ess)) (step m c)

@@ -24,10 +24,10 @@ use Rattle.model.specs.Shown.{zonesIn}
 use Rattle.model.specs.Answer.{Answer, andThen, Answer, refused, answered, unless}
 use Rattle.model.specs.Check.{blocksRead, blocksOf, lengthFits, mapRead}
 use Rattle.edits.specs.Edits.{Disc, inZone, edit, Edit}
-use Rattle.edits.specs.Judge.{Call, callFits, judgeRest, judge}
+use Rattle.edits.specs.Judge.{Call, callFits, byTouching, judgeRest, judge}
 use Rattle.edits.proofs.PieceRuns.{obey, after, run}
 use Rattle.edits.specs.Written.{written, toBlock, rewritten}
-use Rattle.edits.specs.Steps.{discOf, byTouching, byRead, outcome, bytesAfter, step, steps}
+use Rattle.edits.specs.Steps.{discOf, byRead, outcome, bytesAfter, step, steps}
 use Rattle.edits.proofs.Slices.{Sized, flat-blocks, blocks-flat, sized-blocks, length-blocks, length-flat, block-of-flat, block-of-slice}
 use Rattle.edits.proofs.MapWritten.{drawnZones, none-touching, all-pieces-drawn, sized-written, count-written, cross-written, written-at, written-over}
 use Rattle.edits.proofs.DiscKept.{AcceptedDisc, length-obey, disc-after, blocks-written}
@@ -36,11 +36,11 @@ use Rattle.edits.proofs.BytesKept.{map-bytes-written}
 
 -- a call's outcome, where the check accepts and no two free fragments touch: the verdict on the map's pieces
 pub outcome-judged : (m : List ℕ) (ess : List (List Entry)) → mapRead m ≡ answered ess → touching 0 ess ≡ none → (c : Call)
-    → outcome m c ≡ judge (geometryOf m) ((discOf m ess) .pieces) c
+    → outcome m c ≡ judge (geometryOf m) none ((discOf m ess) .pieces) c
 outcome-judged m ess accepted apart c = ap (λ (r : Answer (List (List Entry))). andThen r (byRead (geometryOf m) c)) accepted ∙ by-number (callFits (geometryOf m) c) refl
   where
     by-number : (b : Bool) → callFits (geometryOf m) c ≡ b
-        → unless b 8 (byTouching (touching 0 ess) (judgeRest (geometryOf m) ((discOf m ess) .pieces) c)) ≡ judge (geometryOf m) ((discOf m ess) .pieces) c
+        → unless b 8 (byTouching (touching 0 ess) (judgeRest (geometryOf m) ((discOf m ess) .pieces) c)) ≡ judge (geometryOf m) none ((discOf m ess) .pieces) c
     by-number true e =
         ap (λ (o : Option ℕ). byTouching o (judgeRest (geometryOf m) ((discOf m ess) .pieces) c)) apart
         ∙ ap (λ (b : Bool). unless b 8 (judgeRest (geometryOf m) ((discOf m ess) .pieces) c)) (sym e)
@@ -137,10 +137,10 @@ module _ (g : Geometry) (m : List ℕ) (t : MapOf g m) where
         λ i. record { pieces = p i; cross = c i }
 
     -- a call on it
-    pub outcome-new : (c : Call) → outcome (writtenMap g m s) c ≡ judge g (s .pieces) c
+    pub outcome-new : (c : Call) → outcome (writtenMap g m s) c ≡ judge g none (s .pieces) c
     outcome-new c =
         outcome-judged (writtenMap g m s) (drawnZones g 0 (g .zones) (s .pieces)) read-new (none-touching g 0 (g .zones) (s .pieces) 0) c
-        ∙ ap₂ (λ (x : Geometry) (r : Disc). judge x (r .pieces) c) geometry-new disc-new
+        ∙ ap₂ (λ (x : Geometry) (r : Disc). judge x none (r .pieces) c) geometry-new disc-new
 
     -- writing over it is writing over the old map
     pub over-new : (r : Disc) → length (r .cross) ≡ g .zones → writtenMap (geometryOf (writtenMap g m s)) (writtenMap g m s) r ≡ writtenMap g m r
@@ -151,7 +151,7 @@ module _ (g : Geometry) (m : List ℕ) (t : MapOf g m) where
         ∙ ap flat (written-over g (t .accepted) (s .pieces) (r .pieces) 0 (s .cross) (r .cross) (blocksOf g m) (h .pieces .fit) sized-old cross-count (e ∙ sym count-old) (omega (arith, count-old))))
 
     pub step-new : (c : Call) → step (writtenMap g m s) c ≡ writtenMap g m (after g s c)
-    step-new c = ap (bytesAfter (writtenMap g m s)) (outcome-new c) ∙ by-verdict (judge g (s .pieces) c)
+    step-new c = ap (bytesAfter (writtenMap g m s)) (outcome-new c) ∙ by-verdict (judge g none (s .pieces) c)
       where
         by-verdict : (v : Answer Edit) → bytesAfter (writtenMap g m s) v ≡ writtenMap g m (obey g v s)
         by-verdict (refused n z) = refl

@@ -73,7 +73,7 @@ module _ (m : List ℕ) (ess : List (List Entry)) (bytes : Bytes m) (accepted : 
       ∙ block-new g m (map-of m ess bytes accepted) (run g s cs) z (disc-run g (map-geometry m ess bytes accepted) s cs (map-disc m ess bytes accepted) .count) h
 
   -- after one call that is accepted
-  module _ (c : Call) (e : Edit) (v : judge (geometryOf m) ((discOf m ess) .pieces) c ≡ answered e) (z : ℕ) (h : z < (geometryOf m) .zones) where
+  module _ (c : Call) (e : Edit) (v : judge (geometryOf m) none ((discOf m ess) .pieces) c ≡ answered e) (z : ℕ) (h : z < (geometryOf m) .zones) where
     pub zone-edited : blockAt ((geometryOf m) .sector) z (step m c)
         ≡ written ((geometryOf m) .idlen) (firstBit z) (endBit (geometryOf m)) (map (toBlock (geometryOf m) z) (inZone (geometryOf m) z ((edit (geometryOf m) e (discOf m ess)) .pieces)))
         (getD ((edit (geometryOf m) e (discOf m ess)) .cross) z 0) (blockAt ((geometryOf m) .sector) z m)

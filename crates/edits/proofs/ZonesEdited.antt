@@ -3,6 +3,7 @@
 use mathlib.Core.Path.{_≡_, refl, ap, ap₂, _∙_, subst}
 use mathlib.Core.Bool.{false}
 use mathlib.Core.List.{List, [], _∷_, map}
+use mathlib.Core.Option.{none}
 use Prim.Native.Nat.{ℕ, _<_}
 use lib.Bits.{bitXor}
 use lib.ListN.{length, getD}
@@ -45,7 +46,7 @@ pub record EditedZones (m : List ℕ) (g : Geometry) (k : Edit) (after : List �
   pub zone-old : (z : ℕ) → z < g .zones → touches g z (pairsIn k) ≡ false → zoneBlock g after z ≡ zoneBlock g m z
   pub drawable : (z : ℕ) → z < g .zones → Drawable (g .idlen) (firstBit z) (endBit g) (map (toBlock g z) (inZone g z (newPieces g k (piecesOn g m))))
 
-module _ {m : List ℕ} (e : EditableMap m (geometryOf m)) (c : Call) (k : Edit) (v : judge (geometryOf m) (piecesOn (geometryOf m) m) c ≡ answered k) where
+module _ {m : List ℕ} (e : EditableMap m (geometryOf m)) (c : Call) (k : Edit) (v : judge (geometryOf m) none (piecesOn (geometryOf m) m) c ≡ answered k) where
   abbrev g : Geometry
   g = geometryOf m
 
@@ -73,7 +74,7 @@ module _ {m : List ℕ} (e : EditableMap m (geometryOf m)) (c : Call) (k : Edit)
   })
 
 -- and with the geometry that the check gave
-pub edited-zones : {m : List ℕ} {g : Geometry} → EditableMap m g → (c : Call) (k : Edit) → judge g (piecesOn g m) c ≡ answered k
+pub edited-zones : {m : List ℕ} {g : Geometry} → EditableMap m g → (c : Call) (k : Edit) → judge g none (piecesOn g m) c ≡ answered k
     → EditedZones m g k (bytesAfter m (answered k))
 edited-zones {m} e c k v =
-    with-record e (λ (x : Geometry). judge x (piecesOn x m) c ≡ answered k → EditedZones m x k (bytesAfter m (answered k))) (λ w u. zones-of-map w c k u) v
+    with-record e (λ (x : Geometry). judge x none (piecesOn x m) c ≡ answered k → EditedZones m x k (bytesAfter m (answered k))) (λ w u. zones-of-map w c k u) v

@@ -1,5 +1,5 @@
--- The calls that edit, judged on the pieces of an accepted map in which no two free fragments touch (document 01, "The
--- calls", "Numbered refusals"): refused with a number in the table's order, or an edit. Assumes nothing.
+-- The calls that edit, judged on the pieces of an accepted map (document 01, "The calls", "Numbered refusals"): refused with a number
+-- in the table's order, or an edit. Assumes nothing.
 use mathlib.Core.Bool.{Bool, true, false, cond, not, _&&_}
 use mathlib.Core.List.{List, [], _∷_}
 use mathlib.Core.Option.{Option, none, some}
@@ -100,6 +100,11 @@ chosen g l size = chooseIn (lowest l (g .ids * g .zones - 3) 3) (firstHole (need
 abbrev pub byChoice : Answer Choice → Answer Edit
 byChoice r = andThen r (λ (c : Choice). answered (gives (c .id) (c .pairs)))
 
+-- 9: "edits: two free fragments of a zone touch", where such a zone is found, or what comes after it
+abbrev pub byTouching : Option ℕ → Answer Edit → Answer Edit
+byTouching (some z) v = refused 9 z
+byTouching none v = v
+
 -- what comes after 8 and 9
 abbrev pub judgeRest : Geometry → List Piece → Call → Answer Edit
 judgeRest g l (release id room) =
@@ -113,6 +118,6 @@ judgeRest g l (place id list) =
     (answered (gives id (pairsFrom list)))))
 judgeRest g l (claim size) = unless (ltb 0 size) 12 (byChoice (chosen g l size))
 
--- the verdict on a disc's pieces, where no two free fragments touch: 8, then that
-abbrev pub judge : Geometry → List Piece → Call → Answer Edit
-judge g l c = unless (callFits g c) 8 (judgeRest g l c)
+-- the verdict on a disc's pieces, where free fragments touch in this zone or in none: 8, 9, then that
+abbrev pub judge : Geometry → Option ℕ → List Piece → Call → Answer Edit
+judge g touch l c = unless (callFits g c) 8 (byTouching touch (judgeRest g l c))

@@ -1,33 +1,27 @@
 -- The calls that edit, on the bytes of a map (document 01, "The calls", "Numbered refusals"): each checks the map as it finds
 -- it, is refused with a number and a zone or makes its edit, and leaves these bytes. Assumes nothing.
 use mathlib.Core.List.{List, [], _∷_, map}
-use mathlib.Core.Option.{Option, none, some}
 use Prim.Native.Nat.{ℕ}
 use Rattle.checks.specs.Cross.{crossOf}
 use Rattle.geometry.specs.declared.Geometry.{Geometry}
 use Rattle.geometry.specs.Record.{geometryOf}
 use Rattle.model.specs.Chain.{Entry, touching}
 use Rattle.model.specs.Blocks.{flat}
-use Rattle.model.specs.Answer.{Answer, refused, answered, unless, andThen}
+use Rattle.model.specs.Answer.{Answer, refused, answered, andThen}
 use Rattle.model.specs.Check.{mapRead, blocksOf}
 use Rattle.model.specs.Shown.{zonesOf}
 use Rattle.model.specs.Pieces.{piecesOfZones}
 use Rattle.edits.specs.Edits.{Disc, Edit, edit}
-use Rattle.edits.specs.Judge.{Call, callFits, judgeRest}
+use Rattle.edits.specs.Judge.{Call, judge}
 use Rattle.edits.specs.Written.{rewritten}
 
 -- the pieces and cross checks of a map that was read
 abbrev pub discOf : List ℕ → List (List Entry) → Disc
 discOf m ess = record { pieces = piecesOfZones (geometryOf m) 0 ess; cross = map crossOf (blocksOf (geometryOf m) m) }
 
--- 9, or what comes after it
-abbrev pub byTouching : Option ℕ → Answer Edit → Answer Edit
-byTouching (some z) v = refused 9 z
-byTouching none v = v
-
 -- 1 to 7, then 8, then 9, then the rest in table order
 abbrev pub byRead : Geometry → Call → List (List Entry) → Answer Edit
-byRead g c ess = unless (callFits g c) 8 (byTouching (touching 0 ess) (judgeRest g (piecesOfZones g 0 ess) c))
+byRead g c ess = judge g (touching 0 ess) (piecesOfZones g 0 ess) c
 
 abbrev pub outcome : List ℕ → Call → Answer Edit
 outcome m c = andThen (mapRead m) (byRead (geometryOf m) c)

@@ -16,7 +16,7 @@ use Rattle.bits.proofs.Digits.{bits-value, value-lt}
 use Rattle.geometry.specs.declared.Geometry.{Geometry}
 use Rattle.geometry.specs.Accepted.{AcceptedGeometry}
 use Rattle.geometry.specs.Places.{firstBit, endBit}
-use Rattle.model.specs.Fragments.{Fragment, closed, fragmentBits, Formed, InClusters, edge, within, cut}
+use Rattle.model.specs.Fragments.{Fragment, closed, fragmentThen, fragmentBits, Formed, InClusters, edge, within, cut}
 use Rattle.model.specs.Blocks.{allocBits}
 use Rattle.model.specs.Rules.{FragmentRule}
 use Rattle.model.specs.Table.{ZoneFault, six, five, seven, SixLeft, few-left, not-closed, not-whole, SixCase}
@@ -26,7 +26,7 @@ use Rattle.model.proofs.ZoneJudged.{fragments-read}
 
 -- a fragment and what follows it
 fragment-then : (idlen : ℕ) (f : Fragment) (fs : List Fragment) (rest : List Bool)
-    → fragmentBits idlen (f ∷ fs) ++ rest ≡ numberBits idlen (f .id) ++ closed (f .len - suc idlen) (fragmentBits idlen fs ++ rest)
+    → fragmentBits idlen (f ∷ fs) ++ rest ≡ fragmentThen idlen f (fragmentBits idlen fs ++ rest)
 fragment-then idlen f fs rest =
     append-assoc (numberBits idlen (f .id)) (closed (f .len - suc idlen) (fragmentBits idlen fs)) rest
     ∙ ap (λ (x : List Bool). numberBits idlen (f .id) ++ x) (append-assoc (replicate (f .len - suc idlen) false) (true ∷ fragmentBits idlen fs) rest)
@@ -110,18 +110,18 @@ module _ (idlen k : ℕ) where
   stop-here : (bits : List Bool) → SixLeft idlen k bits → Stopped idlen k bits
   stop-here bits s = record { passed = []; left = bits; fill = refl; formed = tt; clusters = tt; fault = s }
 
-  further : (bits rest : List Bool) (f : Fragment) → bits ≡ numberBits idlen (f .id) ++ closed (f .len - suc idlen) rest → Formed idlen (f ∷ []) → f .len % k ≡ 0
+  further : (bits rest : List Bool) (f : Fragment) → bits ≡ fragmentThen idlen f rest → Formed idlen (f ∷ []) → f .len % k ≡ 0
       → Whole idlen k rest ⊎ Stopped idlen k rest → Whole idlen k bits ⊎ Stopped idlen k bits
   further bits rest f e w c (inl a) = inl (record {
     fragments = f ∷ a .fragments;
-    fill = e ∙ ap (λ (x : List Bool). numberBits idlen (f .id) ++ closed (f .len - suc idlen) x) (a .fill);
+    fill = e ∙ ap (fragmentThen idlen f) (a .fill);
     formed = (w .0, w .1, a .formed);
     clusters = (c, a .clusters);
   })
   further bits rest f e w c (inr a) = inr (record {
     passed = f ∷ a .passed;
     left = a .left;
-    fill = e ∙ ap (λ (x : List Bool). numberBits idlen (f .id) ++ closed (f .len - suc idlen) x) (a .fill) ∙ sym (fragment-then idlen f (a .passed) (a .left));
+    fill = e ∙ ap (fragmentThen idlen f) (a .fill) ∙ sym (fragment-then idlen f (a .passed) (a .left));
     formed = (w .0, w .1, a .formed);
     clusters = (c, a .clusters);
     fault = a .fault;

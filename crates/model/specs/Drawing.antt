@@ -69,5 +69,6 @@ pub record DrawingLaws : Type 0 where
       → readBits idlen at (linkOf at end ps) (draw idlen at end ps) ≡ some (drawnEntries at end ps)
   pub pieces-back : (at end : ℕ) (ps : List Piece) → ownedOf (drawnEntries at end ps) ≡ ps
   -- a zone that can be read and in which no two free fragments touch is the drawing of its pieces
-  pub drawn-read : (idlen at link : ℕ) (bits : List Bool) (es : List Entry) → 0 < idlen → 8 < at → readBits idlen at link bits ≡ some es → noneTouch false es ≡ true
-      → (bits ≡ draw idlen at (at + length bits) (ownedOf es)) × (link ≡ linkOf at (at + length bits) (ownedOf es))
+  pub drawn-read : (idlen at link : ℕ) (bits : List Bool) (es : List Entry) → 0 < idlen → 8 < at
+      → readBits idlen at link bits ≡ some es → noneTouch false es ≡ true
+      → let end = at + length bits in (bits ≡ draw idlen at end (ownedOf es)) × (link ≡ linkOf at end (ownedOf es))

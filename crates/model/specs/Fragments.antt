@@ -23,9 +23,13 @@ pub record Fragment : Type 0 where
 abbrev pub closed : ℕ → List Bool → List Bool
 closed zeros rest = replicate zeros false ++ true ∷ rest
 
+-- the bits of a fragment, and the rest after them
+abbrev pub fragmentThen : ℕ → Fragment → List Bool → List Bool
+fragmentThen idlen f rest = numberBits idlen (f .id) ++ closed (f .len - suc idlen) rest
+
 abbrev pub fragmentBits : ℕ → List Fragment → List Bool
 fragmentBits idlen [] = []
-fragmentBits idlen (f ∷ fs) = numberBits idlen (f .id) ++ closed (f .len - suc idlen) (fragmentBits idlen fs)
+fragmentBits idlen (f ∷ fs) = fragmentThen idlen f (fragmentBits idlen fs)
 
 -- the id fits its bits, and there is room for the closing bit
 abbrev pub Formed : ℕ → List Fragment → Type 0

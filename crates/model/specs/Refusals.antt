@@ -35,15 +35,23 @@ NotThere m id = listedOn m id ≡ []
 abbrev pub TooFew : ℕ → List Pair → Type 0
 TooFew room qs = room < 2 * length qs
 
--- the first line that is given is the answer, and where none is, the value
-abbrev pub ByLines : {A : Type 0} → List Refusing → A → Answer A → Type 0
-ByLines [] a r = r ≡ answered a
-ByLines (l ∷ ls) a r = ((z : ℕ) × l .given z × (r ≡ refused (l .number) z)) ⊎ (((z : ℕ) → l .given z → ⊥) × ByLines ls a r)
+-- What lines say of a call's answer: the first that is given is the answer, and where none is, the answer is as `Otherwise` says.
+abbrev pub LinesSay : {A : Type 0} → List Refusing → (Answer A → Type 0) → Answer A → Type 0
+LinesSay [] Otherwise r = Otherwise r
+LinesSay (l ∷ ls) Otherwise r =
+    ((z : ℕ) × l .given z × (r ≡ refused (l .number) z)) ⊎ (((z : ℕ) → l .given z → ⊥) × LinesSay ls Otherwise r)
 
--- a map that keeps the rules is judged by the call's own lines; any other is refused with 1 to 7
-pub data ByTable (m : List ℕ) {A : Type 0} (ls : List Refusing) (a : A) : Answer A → Type 0 where
-  map-refused : (n z : ℕ) → Judged m (refused n z) → ByTable m ls a (refused n z)
-  by-lines : (r : Answer A) → MapRules m → ByLines ls a r → ByTable m ls a r
+-- What the table says of it: a map that keeps the rules is judged by the call's own lines; any other is refused with 1 to 7.
+pub data TableSays (m : List ℕ) {A : Type 0} (ls : List Refusing) (Otherwise : Answer A → Type 0) : Answer A → Type 0 where
+  map-refused : (n z : ℕ) → Judged m (refused n z) → TableSays m ls Otherwise (refused n z)
+  by-lines : (r : Answer A) → MapRules m → LinesSay ls Otherwise r → TableSays m ls Otherwise r
+
+-- The same for a call whose value is named: where no line is given, the answer is a.
+abbrev pub ByLines : {A : Type 0} → List Refusing → A → Answer A → Type 0
+ByLines ls a = LinesSay ls (λ r. r ≡ answered a)
+
+abbrev pub ByTable : List ℕ → {A : Type 0} → List Refusing → A → Answer A → Type 0
+ByTable m ls a = TableSays m ls (λ r. r ≡ answered a)
 
 -- a call answers what its lines say, and nothing else does
 pub record Exactly {A : Type 0} (Says : Answer A → Type 0) (r : Answer A) : Type 0 where

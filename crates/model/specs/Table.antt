@@ -11,9 +11,8 @@ use Rattle.geometry.specs.Record.{discRecord, geometryOf}
 use Rattle.geometry.specs.Ranges.{RecordRules}
 use Rattle.geometry.specs.Accepted.{AcceptedGeometry}
 use Rattle.geometry.specs.Places.{firstBit, endBit}
-use Rattle.bits.specs.Bits.{numberBits}
 use Rattle.model.specs.Answer.{Answer, refused, answered}
-use Rattle.model.specs.Fragments.{Fragment, closed, fragmentBits, Formed, InClusters}
+use Rattle.model.specs.Fragments.{Fragment, fragmentThen, fragmentBits, Formed, InClusters}
 use Rattle.model.specs.Chain.{Entry}
 use Rattle.model.specs.Rules.{FragmentRule, ChainRule, OwnerRule, ZoneRules, ReadAs, CheckRule, CrossRule, zoneBlock, MapRules}
 use Rattle.model.specs.Blocks.{allocBits}
@@ -35,8 +34,7 @@ pub data SixLeft (idlen k : ℕ) (left : List Bool) : Type 0 where
   -- "no closing bit before the zone's end",
   not-closed : idlen + 1 ≤ length left → drop idlen left ≡ replicate (length left - idlen) false → SixLeft idlen k left
   -- "or length not a multiple of k"
-  not-whole : (f : Fragment) (rest : List Bool) → left ≡ numberBits idlen (f .id) ++ closed (f .len - suc idlen) rest → Formed idlen (f ∷ []) → (f .len % k ≡ 0 → ⊥)
-      → SixLeft idlen k left
+  not-whole : (f : Fragment) (rest : List Bool) → left ≡ fragmentThen idlen f rest → Formed idlen (f ∷ []) → (f .len % k ≡ 0 → ⊥) → SixLeft idlen k left
 
 pub record SixCase (g : Geometry) (z : ℕ) (block : List ℕ) : Type 0 where
   pub passed : List Fragment

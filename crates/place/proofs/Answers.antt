@@ -3,6 +3,7 @@
 use mathlib.Core.Path.{_≡_, refl, sym, ap, _∙_}
 use mathlib.Core.Bool.{Bool, true, false}
 use mathlib.Core.List.{List}
+use mathlib.Core.Option.{none}
 use Prim.Native.Nat.{ℕ, _*_, _≤_}
 use native.Mathlib.Omega.{arith}
 use lib.Dec.{ltb, leb}
@@ -73,7 +74,7 @@ module _ {m : List ℕ} {g : Geometry} (a : AcceptedMap m g) (id : ℕ) (list : 
 
     -- neither refuses: the map is one that edits work on
     module _ (w : EditableMap m g) {n : ℕ} (count : n ≡ length (heldFrom g id m 0 (g .zones))) where
-      refuses : {r : Refusal} (k : ℕ) → r ≡ refusal k 0 → judge g (piecesOn g m) (judged.place id list) ≡ refused k 0 → Places m id list (placed.Refused r) m
+      refuses : {r : Refusal} (k : ℕ) → r ≡ refusal k 0 → judge g none (piecesOn g m) (judged.place id list) ≡ refused k 0 → Places m id list (placed.Refused r) m
       refuses k er v = rw er (refusal-places m id list k 0 (judged-told w (judged.place id list) (refused k 0) v))
 
       -- 11: "id already on the map"
@@ -97,7 +98,7 @@ module _ {m : List ℕ} {g : Geometry} {id : ℕ} {list : List ℕ} (q : PlaceAs
   no-room er t = rw er (refusal-places m id list 13 0 (judged-told (q .editable) (judged.place id list) (refused 13 0) (rw (q .named, q .absent, q .fits, sym ef ∙ t))))
 
   module _ (t : fits ≡ true) where
-    room : judge g (piecesOn g m) (judged.place id list) ≡ answered (gives id (pairsFrom list))
+    room : judge g none (piecesOn g m) (judged.place id list) ≡ answered (gives id (pairsFrom list))
     room = rw (q .named, q .absent, q .fits, sym ef ∙ t)
 
     edit-is : editOf 0 (pairsFrom list) id ≡ gives id (pairsFrom list)

@@ -3,6 +3,7 @@
 use mathlib.Core.Path.{_≡_, refl, sym, ap, _∙_, subst, subst⁻¹}
 use mathlib.Core.Bool.{true, false}
 use mathlib.Core.List.{List, _++_}
+use mathlib.Core.Option.{none}
 use Prim.Native.Nat.{ℕ, _-_, _*_, _≤_}
 use native.Mathlib.Omega.{arith}
 use lib.ListN.{length, take, drop, length-append}
@@ -66,7 +67,7 @@ module _ {m : List ℕ} {g : Geometry} (e : EditableMap m g) (id : ℕ) (named :
   told-is : (x : Listed) → r ≡ x → list.listAnswer (listing (length old) (objectOn g m id)) ≡ x
   told-is x t = ap list.listAnswer (sym found) ∙ sym (l .answer) ∙ t
 
-  verdict : judge g (piecesOn g m) (call.release id (length old)) ≡ verdictOf id (listing (length old) (objectOn g m id))
+  verdict : judge g none (piecesOn g m) (call.release id (length old)) ≡ verdictOf id (listing (length old) (objectOn g m id))
   verdict = judged-as-listed g (piecesOn g m) id room named
 
   as-listed : (x : Listed) → r ≡ x → pairsTaken (outcome m (call.release id (length old))) ≡ listing (length old) (objectOn g m id)
@@ -100,7 +101,7 @@ module _ {m : List ℕ} {g : Geometry} (e : EditableMap m g) (id : ℕ) (named :
         let k : length (numbersOf qs) ≡ 2 * n - 0 = omega (arith, length-numbers qs, count) in
         ap (take (2 * n - 0)) new-is ∙ take-at (numbersOf qs) (drop (2 * length qs) old) (2 * n - 0) k
 
-    edit-judged : judge g (piecesOn g m) (call.release id (length old)) ≡ answered (takes id (objectOn g m id))
+    edit-judged : judge g none (piecesOn g m) (call.release id (length old)) ≡ answered (takes id (objectOn g m id))
     edit-judged = verdict ∙ ap (verdictOf id) pairs-are
 
     -- so the edit can be made: an object's pairs are in its order

@@ -3,6 +3,7 @@
 use mathlib.Core.Path.{_≡_, refl, sym, ap, _∙_}
 use mathlib.Core.Bool.{true, not}
 use mathlib.Core.List.{List, [], _∷_}
+use mathlib.Core.Option.{none}
 use Prim.Native.Nat.{ℕ, _*_, _%_}
 use native.Mathlib.Omega.{arith}
 use lib.Dec.{eqb, leb, ltb}
@@ -56,7 +57,7 @@ id-listed g id e =
     let t = both (leb 3 id) (ltb id (g .ids * g .zones)) e in
     and-true (leb 1 id) (ltb id (g .ids * g .zones)) (le-leb 1 id (omega (arith, leb-true 3 id (t .0)))) (t .1)
 
-pub judged-as-listed : (g : Geometry) (l : List Piece) (id room : ℕ) → editable g id ≡ true → judge g l (judged.release id room) ≡ verdictOf id (listing room (objectPairs g id l))
+pub judged-as-listed : (g : Geometry) (l : List Piece) (id room : ℕ) → editable g id ≡ true → judge g none l (judged.release id room) ≡ verdictOf id (listing room (objectPairs g id l))
 judged-as-listed g l id room e =
     rw (e, empty-alike (piecesOf id l) (objectPairs g id l) (sym (pairs-count g id l))) (by-room id room (objectPairs g id l))
 

@@ -3,6 +3,7 @@
 use mathlib.Core.Path.{_≡_, refl, sym, ap, ap₂, _∙_, subst}
 use mathlib.Core.Bool.{true}
 use mathlib.Core.List.{List, [], _∷_}
+use mathlib.Core.Option.{none}
 use Prim.Native.Nat.{ℕ, zero, suc, _*_, _<_}
 use native.Mathlib.Omega.{arith}
 use lib.Dec.{eqb, leb, ltb}
@@ -102,7 +103,7 @@ key-edit g s (takes id qs) n h w =
 below-limit : (g : Geometry) (id : ℕ) → editable g id ≡ true → id < g .ids * g .zones
 below-limit g id t = ltb-true id (g .ids * g .zones) ((both (leb 3 id) (ltb id (g .ids * g .zones)) t) .1)
 
-pub edit-number : (g : Geometry) (l : List Piece) (c : Call) (e : Edit) → judge g l c ≡ answered e → editId e < g .ids * g .zones
+pub edit-number : (g : Geometry) (l : List Piece) (c : Call) (e : Edit) → judge g none l c ≡ answered e → editId e < g .ids * g .zones
 edit-number g l (release id room) e h =
     let t = release-tests g l id room e h in
     subst (λ (x : Edit). editId x < g .ids * g .zones) (t .3) (below-limit g id (t .0))
@@ -117,12 +118,12 @@ edit-number g l (claim size) e h =
 pub run-key : (g : Geometry) (s : Disc) (cs : List Call) → AcceptedGeometry g → FitPieces g (s .pieces)
     → crossKey g ((run g s cs) .pieces) (g .ids * g .zones) ((run g s cs) .cross) ≡ crossKey g (s .pieces) (g .ids * g .zones) (s .cross)
 run-key g s [] f k = refl
-run-key g s (c ∷ cs) f k = go (judge g (s .pieces) c) refl (λ r h. run-key g r cs f h)
+run-key g s (c ∷ cs) f k = go (judge g none (s .pieces) c) refl (λ r h. run-key g r cs f h)
   where
     N : ℕ
     N = g .ids * g .zones
 
-    go : (v : Answer Edit) → judge g (s .pieces) c ≡ v
+    go : (v : Answer Edit) → judge g none (s .pieces) c ≡ v
         → ((r : Disc) → FitPieces g (r .pieces) → crossKey g ((run g r cs) .pieces) (g .ids * g .zones) ((run g r cs) .cross) ≡ crossKey g (r .pieces) (g .ids * g .zones) (r .cross))
         → crossKey g ((run g (obey g v s) cs) .pieces) (g .ids * g .zones) ((run g (obey g v s) cs) .cross) ≡ crossKey g (s .pieces) (g .ids * g .zones) (s .cross)
     go (refused n zone) h ih = ih s k

@@ -21,12 +21,12 @@ use Rattle.edits.proofs.RunsOnBytes.{step-refused, step-accepted, bytes-kept}
 pub edits-same : (cs : List Call) (m : List ℕ) (ess : List (List Entry)) → Bytes m → mapRead m ≡ answered ess → touching 0 ess ≡ none
     → editsOf m cs ≡ edits (geometryOf m) (discOf m ess) cs
 edits-same [] m ess b a t = refl
-edits-same (c ∷ cs) m ess b a t = go (judge (geometryOf m) ((discOf m ess) .pieces) c) refl (λ n x y z w. edits-same cs n x y z w)
+edits-same (c ∷ cs) m ess b a t = go (judge (geometryOf m) none ((discOf m ess) .pieces) c) refl (λ n x y z w. edits-same cs n x y z w)
   where
     g : Geometry
     g = geometryOf m
 
-    go : (v : Answer Edit) → judge (geometryOf m) ((discOf m ess) .pieces) c ≡ v
+    go : (v : Answer Edit) → judge (geometryOf m) none ((discOf m ess) .pieces) c ≡ v
         → ((n : List ℕ) (x : List (List Entry)) → Bytes n → mapRead n ≡ answered x → touching 0 x ≡ none → editsOf n cs ≡ edits (geometryOf n) (discOf n x) cs)
         → kept (outcome m c) (editsOf (step m c) cs) ≡ onPieces.kept v (edits (geometryOf m) (obey (geometryOf m) v (discOf m ess)) cs)
     go (refused n z) h ih =
@@ -41,5 +41,5 @@ edits-same (c ∷ cs) m ess b a t = go (judge (geometryOf m) ((discOf m ess) .pi
 
 -- an outcome that is an edit was judged so
 pub judged-done : (m : List ℕ) (ess : List (List Entry)) → mapRead m ≡ answered ess → touching 0 ess ≡ none → (c : Call) (e : Edit) → outcome m c ≡ answered e
-    → judge (geometryOf m) ((discOf m ess) .pieces) c ≡ answered e
+    → judge (geometryOf m) none ((discOf m ess) .pieces) c ≡ answered e
 judged-done m ess a t c e h = sym (outcome-judged m ess a t c) ∙ h

@@ -13,7 +13,6 @@ pub mod MapRefused
 pub mod MapsEdited
 pub mod NeverFourteen
 pub mod Touches
-pub mod RulesJudged
 pub mod RoomForList
 pub mod OneClaim
 pub mod TableKept

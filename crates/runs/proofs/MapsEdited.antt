@@ -18,8 +18,8 @@ use Rattle.model.specs.Check.{mapRead}
 use Rattle.model.specs.Shown.{zonesIn, zonesOf}
 use Rattle.model.specs.Pieces.{piecesOfZones}
 use Rattle.edits.specs.Edits.{Edit}
-use Rattle.edits.specs.Judge.{Call, callFits, judgeRest}
-use Rattle.edits.specs.Steps.{byTouching, byRead}
+use Rattle.edits.specs.Judge.{Call, callFits, judgeRest, byTouching}
+use Rattle.edits.specs.Steps.{byRead}
 use Rattle.edits.specs.Editable.{Editable}
 use Rattle.runs.specs.Demand3.{Accepted}
 

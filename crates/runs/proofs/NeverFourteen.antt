@@ -10,9 +10,9 @@ use Rattle.geometry.specs.Record.{geometryOf}
 use Rattle.model.specs.Chain.{Entry, touching}
 use Rattle.model.specs.Answer.{Answer, refused, answered, unless, andThen}
 use Rattle.model.specs.Check.{mapRead}
-use Rattle.edits.specs.Judge.{Call, callFits, judgeRest}
+use Rattle.edits.specs.Judge.{Call, callFits, byTouching, judgeRest}
 use Rattle.edits.proofs.Fourteen as onPieces
-use Rattle.edits.specs.Steps.{discOf, byTouching, byRead, outcome}
+use Rattle.edits.specs.Steps.{discOf, byRead, outcome}
 use Rattle.edits.proofs.MapAccepted.{map-geometry, map-disc}
 use Rattle.runs.proofs.MapRefused.{refused-number}
 

@@ -8,6 +8,7 @@ use lib.Dec.{eqb, ltb}
 use borrow.Author.Tests.{eqb-true, eqb-false, ltb-true, ltb-false}
 use Rattle.bits.proofs.Tests.{by-test}
 use Rattle.geometry.specs.Record.{geometryOf}
+use Rattle.model.specs.Answer.{Answer, answered}
 use Rattle.model.specs.Chain.{Pair}
 use Rattle.edits.specs.Edits.{Edit, gives}
 use Rattle.edits.specs.Judge.{need, taken}
@@ -69,10 +70,10 @@ module _ (m : List ℕ) (size : ℕ) where
       h : Pair
       h = a .hole
 
-  pub one-claim : (a b : Edit) → Claimed m size a → Claimed m size b → a ≡ b
-  one-claim a b x y =
-      let r = x .3 in
-      let t = y .3 in
+  pub one-claim : (r s : Answer Edit) → Claimed m size r → Claimed m size s → r ≡ s
+  one-claim r s x y =
+      let a = x .3 in
+      let b = y .3 in
       let cut = taken ((geometryOf m) .shortest) (need (geometryOf m) size) in
-      let same : x .1 ≡ y .1 = pair-taken (x .0) (x .1) r ∙ ap cut (same-hole (x .0) (y .0) (x .1) (y .1) r t) ∙ sym (pair-taken (y .0) (y .1) t) in
-      x .2 ∙ ap₂ (λ (i : ℕ) (q : Pair). gives i (q ∷ [])) (same-id (x .0) (y .0) (x .1) (y .1) r t) same ∙ sym (y .2)
+      let same : x .1 ≡ y .1 = pair-taken (x .0) (x .1) a ∙ ap cut (same-hole (x .0) (y .0) (x .1) (y .1) a b) ∙ sym (pair-taken (y .0) (y .1) b) in
+      x .2 ∙ ap₂ (λ (i : ℕ) (q : Pair). answered (gives i (q ∷ []))) (same-id (x .0) (y .0) (x .1) (y .1) a b) same ∙ sym (y .2)

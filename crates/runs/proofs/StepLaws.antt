@@ -3,6 +3,7 @@
 use mathlib.Core.Path.{_≡_, sym, ap, ap₂, _∙_, subst⁻¹}
 use mathlib.Core.Bool.{true, not, false≢true}
 use mathlib.Core.List.{List, [], _∷_}
+use mathlib.Core.Option.{none}
 use Prim.Native.Nat.{ℕ, _*_, _≤_}
 use lib.ListN.{length}
 use Rattle.geometry.specs.declared.Geometry.{Geometry}
@@ -37,10 +38,10 @@ pub refused-keeps : (m : List ℕ) (c : Call) (n z : ℕ) → outcome m c ≡ re
 refused-keeps m c n z h = ap (bytesAfter m) h
 
 -- on a map that reads as a disc, a verdict is the outcome
-pub reads-outcome : (g : Geometry) (s : Disc) (m : List ℕ) → ReadsAs g s m → (c : Call) (e : Edit) → judge g (s .pieces) c ≡ answered e → Accepted m c e
-reads-outcome g s m r c e h = outcome-judged m (r .0) (r .1) (r .2) c ∙ ap₂ (λ (x : Geometry) (d : Disc). judge x (d .pieces) c) (r .4) (r .3) ∙ h
+pub reads-outcome : (g : Geometry) (s : Disc) (m : List ℕ) → ReadsAs g s m → (c : Call) (e : Edit) → judge g none (s .pieces) c ≡ answered e → Accepted m c e
+reads-outcome g s m r c e h = outcome-judged m (r .0) (r .1) (r .2) c ∙ ap₂ (λ (x : Geometry) (d : Disc). judge x none (d .pieces) c) (r .4) (r .3) ∙ h
 
-two-edits : (g : Geometry) (s : Disc) (c d : Call) (a b : Edit) → judge g (s .pieces) c ≡ answered a → judge g ((edit g a s) .pieces) d ≡ answered b
+two-edits : (g : Geometry) (s : Disc) (c d : Call) (a b : Edit) → judge g none (s .pieces) c ≡ answered a → judge g none ((edit g a s) .pieces) d ≡ answered b
     → edits g s (c ∷ d ∷ []) ≡ a ∷ b ∷ []
 two-edits g s c d a b h k =
     ap (λ (v : Answer Edit). onPieces.kept v (edits g (obey g v s) (d ∷ []))) h ∙ ap (λ (v : Answer Edit). a ∷ onPieces.kept v []) k
@@ -58,18 +59,18 @@ module _ (m : List ℕ) (ed : Editable m) where
   pieces-ok : AcceptedPieces (geometryOf m) ((discOf m (zonesOf m)) .pieces)
   pieces-ok = map-disc m (zonesOf m) (ed .bytes) (ed .accepted) .pieces
 
-  pub verdict : (c : Call) (e : Edit) → Accepted m c e → judge (geometryOf m) ((discOf m (zonesOf m)) .pieces) c ≡ answered e
+  pub verdict : (c : Call) (e : Edit) → Accepted m c e → judge (geometryOf m) none ((discOf m (zonesOf m)) .pieces) c ≡ answered e
   verdict c e a = judged-done m (zonesOf m) (ed .accepted) (ed .apart) c e a
 
-  pub accept : (c : Call) (e : Edit) → judge (geometryOf m) ((discOf m (zonesOf m)) .pieces) c ≡ answered e → Accepted m c e
+  pub accept : (c : Call) (e : Edit) → judge (geometryOf m) none ((discOf m (zonesOf m)) .pieces) c ≡ answered e → Accepted m c e
   accept c e h = step-accepted m (zonesOf m) (ed .bytes) (ed .accepted) (ed .apart) c e h .0
 
   after-reads : (c : Call) (e : Edit) → Accepted m c e → ReadsAs (geometryOf m) (edit (geometryOf m) e (discOf m (zonesOf m))) (step m c)
   after-reads c e a = step-accepted m (zonesOf m) (ed .bytes) (ed .accepted) (ed .apart) c e (verdict c e a) .2
 
   -- an edit and its undo leave every byte
-  undo : (c d : Call) (a b : Edit) → judge (geometryOf m) ((discOf m (zonesOf m)) .pieces) c ≡ answered a
-      → judge (geometryOf m) ((edit (geometryOf m) a (discOf m (zonesOf m))) .pieces) d ≡ answered b → Undone (a ∷ b ∷ []) → steps m (c ∷ d ∷ []) ≡ m
+  undo : (c d : Call) (a b : Edit) → judge (geometryOf m) none ((discOf m (zonesOf m)) .pieces) c ≡ answered a
+      → judge (geometryOf m) none ((edit (geometryOf m) a (discOf m (zonesOf m))) .pieces) d ≡ answered b → Undone (a ∷ b ∷ []) → steps m (c ∷ d ∷ []) ≡ m
   undo c d a b h k u =
       undone-bytes m (zonesOf m) (ed .bytes) (ed .accepted) (ed .apart) (c ∷ d ∷ []) (subst⁻¹ Undone (two-edits (geometryOf m) s c d a b h k) u)
 
@@ -115,8 +116,8 @@ module _ (m : List ℕ) (ed : Editable m) where
       let h = verdict c e a in
       let q : qs ≡ objectPairs (geometryOf m) id P = allowed (geometryOf m) P c e ok (pieces-ok .fit) h .0 in
       let t = release-tests (geometryOf m) P id room e h in
-      let k : judge (geometryOf m) (without id P) (place id (numbersOf qs)) ≡ answered (gives id qs) =
-      subst⁻¹ (λ (r : List Pair). judge (geometryOf m) (without id P) (place id (numbersOf r)) ≡ answered (gives id r)) q
+      let k : judge (geometryOf m) none (without id P) (place id (numbersOf qs)) ≡ answered (gives id qs) =
+      subst⁻¹ (λ (r : List Pair). judge (geometryOf m) none (without id P) (place id (numbersOf r)) ≡ answered (gives id r)) q
       (place-back (geometryOf m) ok id P (pieces-ok .fit) (pieces-ok .clusters) (t .0)
       (λ n. false≢true (sym (ap (λ (r : List Piece). not (isEmpty r)) (none-listed (geometryOf m) id P n)) ∙ t .1))) in (
         reads-outcome (geometryOf m) (edit (geometryOf m) e s) (step m c) (after-reads c e a) (place id (numbersOf qs)) (gives id qs) k,

@@ -17,16 +17,16 @@ use Rattle.model.specs.Answer.{Answer, answered, unless}
 use Rattle.model.specs.Chain.{Pair, Entry, touching}
 use Rattle.model.specs.Check.{mapRead}
 use Rattle.model.specs.Pieces.{Piece, piecesOf}
-use Rattle.model.specs.Refusals.{Refusing, ByLines, ByTable, Exactly}
+use Rattle.model.specs.Refusals.{Refusing, LinesSay, TableSays, ByLines, ByTable, Exactly}
 use Rattle.model.specs.Shown.{zonesIn, zonesOf, piecesOn, listedOn}
 use Rattle.model.specs.Rules.{MapRules}
 use Rattle.model.proofs.MapJudged.{rules-accepted}
-use Rattle.model.proofs.LinesJudged.{OneZone, line-one, unless-line, by-table}
+use Rattle.model.proofs.LinesJudged.{OneZone, line-one, unless-says, unless-line, table-says, by-table}
 use Rattle.edits.specs.Edits.{Edit, give, takes, gives}
 use Rattle.edits.specs.Holes.{holesFrom, allApart}
-use Rattle.edits.specs.Judge.{release, place, claim, isEmpty, editable, pairsFrom, pairsFit, listFits, need, firstHole, taken, lowest, chooseIn, chosen, byChoice, judgeRest}
+use Rattle.edits.specs.Judge.{release, place, claim, isEmpty, editable, pairsFrom, pairsFit, listFits, need, firstHole, taken, lowest, chooseIn, chosen, byChoice, judgeRest, byTouching}
 use Rattle.edits.specs.Room.{In}
-use Rattle.edits.specs.Steps.{byTouching, byRead, outcome}
+use Rattle.edits.specs.Steps.{byRead, outcome}
 use Rattle.edits.specs.Editable.{Editable}
 use Rattle.edits.proofs.Chosen.{empty, lowest-absent, lowest-lt, lowest-least}
 use Rattle.edits.proofs.Fourteen.{lowest-used}
@@ -36,12 +36,10 @@ use Rattle.edits.proofs.ReadsAfter.{same-pieces}
 use Rattle.runs.specs.ListRules.{ListRules}
 use Rattle.runs.specs.ListRoom.{NoRoom}
 use Rattle.runs.specs.Refusals.{nine, ten, eleven, twelve, twelveClaim, thirteen, fourteen, fifteen, seventeen, releaseLines, placeLines, claimLines, Claimed}
-use Rattle.runs.specs.ByRules.{ByRules, ByTableRules}
 use Rattle.runs.proofs.Touches.{map-apart, map-touches}
 use Rattle.runs.proofs.Twelve.{fits-gives-rules, rules-give-fits}
 use Rattle.runs.proofs.RoomForList as room
 use Rattle.runs.proofs.ClaimsJudged.{none-long, spans-holes, claim-rules}
-use Rattle.runs.proofs.RulesJudged as rules
 use Rattle.runs.proofs.OneClaim.{one-claim}
 use Rattle.edits.proofs.ClaimFits.{first-in}
 
@@ -110,15 +108,10 @@ module _ (m : List ℕ) where
         go k (some y) t = absurd (k y (map-touches m (zonesOf m) map-read y t))
 
   -- 9 and what comes after it
-  touch-line : mapRead m ≡ answered (zonesOf m) → (ls : List Refusing) (a : Edit) (v : Answer Edit) → (o : Option ℕ) → touching 0 (zonesOf m) ≡ o
-      → (o ≡ none → ByLines ls a v) → ByLines (nine m ∷ ls) a (byTouching o v)
-  touch-line r ls a v none t h = inr ((λ z k. map-apart m (zonesOf m) r t z (k .touch)), h refl)
-  touch-line r ls a v (some z) t h = inl (z, map-touches m (zonesOf m) r z t, refl)
-
-  touch-rules : mapRead m ≡ answered (zonesOf m) → (ls : List Refusing) (R : Edit → Type 0) (v : Answer Edit) → (o : Option ℕ) → touching 0 (zonesOf m) ≡ o
-      → (o ≡ none → ByRules ls R v) → ByRules (nine m ∷ ls) R (byTouching o v)
-  touch-rules r ls R v none t h = inr ((λ z k. map-apart m (zonesOf m) r t z (k .touch)), h refl)
-  touch-rules r ls R v (some z) t h = inl (z, map-touches m (zonesOf m) r z t, refl)
+  touch-line : mapRead m ≡ answered (zonesOf m) → (ls : List Refusing) (O : Answer Edit → Type 0) (v : Answer Edit) (o : Option ℕ) → touching 0 (zonesOf m) ≡ o
+      → (o ≡ none → LinesSay ls O v) → LinesSay (nine m ∷ ls) O (byTouching o v)
+  touch-line r ls O v none t h = inr ((λ z k. map-apart m (zonesOf m) r t z (k .touch)), h refl)
+  touch-line r ls O v (some z) t h = inl (z, map-touches m (zonesOf m) r z t, refl)
 
   -- release
   module _ (id room : ℕ) where
@@ -139,7 +132,7 @@ module _ (m : List ℕ) where
         let v = judgeRest g l (release id room) in
         unless-line (editable g id) 8 ((3 ≤ id) × (id < g .ids * g .zones) → ⊥) (nine m ∷ rest) taken-off (byTouching (touching 0 (zonesOf m)) v)
         (id-outside g id) (λ t k. k (id-inside g id t))
-        (λ t. touch-line r rest taken-off v (touching 0 (zonesOf m)) refl (λ _. released))
+        (λ t. touch-line r rest (λ x. x ≡ answered taken-off) v (touching 0 (zonesOf m)) refl (λ _. released))
 
     pub release-by-table : Exactly (ByTable m (releaseLines m id room) (takes id (listedOn m id))) (outcome m (release id room))
     release-by-table =
@@ -175,7 +168,7 @@ module _ (m : List ℕ) where
           let v = judgeRest g l (place id list) in
           unless-line (editable g id) 8 ((3 ≤ id) × (id < g .ids * g .zones) → ⊥) (nine m ∷ rest) given (byTouching (touching 0 (zonesOf m)) v)
           (id-outside g id) (λ t k. k (id-inside g id t))
-          (λ t. touch-line r rest given v (touching 0 (zonesOf m)) refl (λ n. placed (editable-map r n)))
+          (λ t. touch-line r rest (λ x. x ≡ answered given) v (touching 0 (zonesOf m)) refl (λ n. placed (editable-map r n)))
 
       pub place-by-table : Exactly (ByTable m (placeLines m id list) (gives id (pairsFrom list))) (outcome m (place id list))
       place-by-table =
@@ -185,7 +178,7 @@ module _ (m : List ℕ) where
 
     -- claim
     module _ (size : ℕ) where
-      claimed : Editable m → ByRules (fourteen m ∷ fifteen m size ∷ []) (Claimed m size) (byChoice (chosen (geometryOf m) (piecesOn (geometryOf m) m) size))
+      claimed : Editable m → LinesSay (fourteen m ∷ fifteen m size ∷ []) (Claimed m size) (byChoice (chosen (geometryOf m) (piecesOn (geometryOf m) m) size))
       claimed ed = go (lowest l ids 3) refl (firstHole n hs) refl
         where
           ids : ℕ
@@ -201,7 +194,7 @@ module _ (m : List ℕ) where
           unused id a k = k id (lowest-least l ids 3 id a) (omega (arith, lowest-lt l ids 3 id a)) (same-pieces g id l [] (lowest-absent l ids 3 id a))
 
           go : (i : Option ℕ) → lowest l ids 3 ≡ i → (o : Option Pair) → firstHole n hs ≡ o
-              → ByRules (fourteen m ∷ fifteen m size ∷ []) (Claimed m size) (byChoice (chooseIn i o (g .shortest) n))
+              → LinesSay (fourteen m ∷ fifteen m size ∷ []) (Claimed m size) (byChoice (chooseIn i o (g .shortest) n))
           go none a o b = inl (0, (refl, λ i lo hi k. lowest-used l ids 3 a i lo (omega arith) (none-listed g i l k)), refl)
           go (some id) a none b = inr ((λ z p. unused id a (p .1)), inl (0, (refl, λ h i. none-long n hs b h (subst (In h) (spans-holes m ed) i)), refl))
           go (some id) a (some h) b =
@@ -210,20 +203,20 @@ module _ (m : List ℕ) where
                 (λ z p. unused id a (p .1)),
                 inr (
                   (λ z p. omega (arith, k .1, p .1 h (subst⁻¹ (In h) (spans-holes m ed) (k .0)))),
-                  (gives id (taken (g .shortest) n h ∷ []), (id, taken (g .shortest) n h, refl, claim-rules m ed size id h a b), refl),
+                  (id, taken (g .shortest) n h, refl, claim-rules m ed size id h a b),
                 ),
               )
 
-      claim-lines : mapRead m ≡ answered (zonesOf m) → ByRules (claimLines m size) (Claimed m size) (byRead (geometryOf m) (claim size) (zonesOf m))
+      claim-lines : mapRead m ≡ answered (zonesOf m) → LinesSay (claimLines m size) (Claimed m size) (byRead (geometryOf m) (claim size) (zonesOf m))
       claim-lines r =
           let rest = fourteen m ∷ fifteen m size ∷ [] in
           let v = byChoice (chosen g l size) in
-          touch-rules r (twelveClaim m size ∷ rest) (Claimed m size) (unless (ltb 0 size) 12 v) (touching 0 (zonesOf m)) refl
-          (λ n. rules.unless-line (ltb 0 size) 12 (size ≡ 0) rest (Claimed m size) v
+          touch-line r (twelveClaim m size ∷ rest) (Claimed m size) (unless (ltb 0 size) 12 v) (touching 0 (zonesOf m)) refl
+          (λ n. unless-says (ltb 0 size) 12 (size ≡ 0) rest (Claimed m size) v
           (λ t. omega (arith, ltb-false 0 size t)) (λ t k. omega (arith, ltb-true 0 size t)) (λ t. claimed (editable-map r n)))
 
-      pub claim-by-table : Exactly (ByTableRules m (claimLines m size) (Claimed m size)) (outcome m (claim size))
+      pub claim-by-table : Exactly (TableSays m (claimLines m size) (Claimed m size)) (outcome m (claim size))
       claim-by-table =
-          rules.by-table-rules m (claimLines m size) (Claimed m size) (nine-one m, (line-one 12 _, (line-one 14 _, (line-one 15 _, tt)))) (one-claim m size) (byRead g (claim size))
-          (λ ess e. subst (λ (x : List (List Entry)). ByRules (claimLines m size) (Claimed m size) (byRead g (claim size) x)) (zones-read ess e)
+          table-says m (claimLines m size) (Claimed m size) (nine-one m, (line-one 12 _, (line-one 14 _, (line-one 15 _, tt)))) (one-claim m size) (byRead g (claim size))
+          (λ ess e. subst (λ (x : List (List Entry)). LinesSay (claimLines m size) (Claimed m size) (byRead g (claim size) x)) (zones-read ess e)
           (claim-lines (read-zones ess e)))

@@ -6,7 +6,7 @@ use mathlib.Core.Option.{none, some}
 use mathlib.Core.Logic.{_↔_}
 use Prim.Native.Nat.{ℕ}
 use Rattle.bits.specs.Bits.{Bytes}
-use Rattle.model.specs.Refusals.{ByTable, Exactly}
+use Rattle.model.specs.Refusals.{TableSays, ByTable, Exactly}
 use Rattle.model.specs.Chain.{touching}
 use Rattle.model.specs.Rules.{MapRules}
 use Rattle.model.specs.Shown.{zonesOf, listedOn}
@@ -14,7 +14,6 @@ use Rattle.edits.specs.Edits.{takes, gives}
 use Rattle.edits.specs.Judge.{release, place, claim, pairsFrom}
 use Rattle.edits.specs.Steps.{outcome}
 use Rattle.runs.specs.Refusals.{nine, releaseLines, placeLines, claimLines, Claimed}
-use Rattle.runs.specs.ByRules.{ByTableRules}
 
 pub record EditTable : Type 0 where
   -- 9: the zone found by going through the fragments is the one that the line tells, and there is none exactly where the line tells none
@@ -26,4 +25,4 @@ pub record EditTable : Type 0 where
   pub place-by-table : (m : List ℕ) → Bytes m → (id : ℕ) (list : List ℕ)
       → Exactly (ByTable m (placeLines m id list) (gives id (pairsFrom list))) (outcome m (place id list))
   -- "Claim: given a size in bytes": the id and the pair by their rules
-  pub claim-by-table : (m : List ℕ) → Bytes m → (size : ℕ) → Exactly (ByTableRules m (claimLines m size) (Claimed m size)) (outcome m (claim size))
+  pub claim-by-table : (m : List ℕ) → Bytes m → (size : ℕ) → Exactly (TableSays m (claimLines m size) (Claimed m size)) (outcome m (claim size))

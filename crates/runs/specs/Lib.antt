@@ -3,6 +3,5 @@ pub mod ListRoom
 pub mod Demand3
 pub mod Claims
 pub mod Refusals
-pub mod ByRules
 pub mod EditTable
 pub mod EditRules

@@ -6,6 +6,7 @@ use Prim.Native.Nat.{ℕ, _+_, _*_, _<_, _≤_}
 use Rattle.geometry.specs.declared.Geometry.{Geometry}
 use Rattle.geometry.specs.Record.{geometryOf}
 use Rattle.geometry.specs.Places.{zoneOf}
+use Rattle.model.specs.Answer.{Answer, answered}
 use Rattle.model.specs.Chain.{Pair}
 use Rattle.model.specs.Refusals.{Refusing, line, Outside, NotThere, TooFew}
 use Rattle.model.specs.Shown.{listedOn, spansOn}
@@ -83,6 +84,6 @@ module _ (m : List ℕ) where
   abbrev pub claimLines : ℕ → List Refusing
   claimLines size = nine ∷ twelveClaim size ∷ fourteen ∷ fifteen size ∷ []
 
-  -- what a claim that none of these refuses edits: one pair goes to one id, by the rules
-  abbrev pub Claimed : ℕ → Edit → Type 0
-  Claimed size e = (id : ℕ) × (q : Pair) × (e ≡ gives id (q ∷ [])) × ClaimRules m size id q
+  -- what a claim that none of these refuses answers: one pair goes to one id, by the rules
+  abbrev pub Claimed : ℕ → Answer Edit → Type 0
+  Claimed size r = (id : ℕ) × (q : Pair) × (r ≡ answered (gives id (q ∷ []))) × ClaimRules m size id q

@@ -2,6 +2,7 @@
 use mathlib.Core.Path.{_≡_}
 use mathlib.Core.Bool.{cond}
 use mathlib.Core.List.{List, [], _++_, map}
+use mathlib.Core.Option.{none}
 use Prim.Native.Nat.{ℕ, _+_, _-_, _*_, _/_, _<_, _≤_}
 use lib.Dec.{eqb, ltb}
 use lib.ListN.{length, take, drop}
@@ -79,7 +80,7 @@ pub record EditAsks (m : List ℕ) (g : Geometry) (gone : ℕ) (list : List ℕ)
   pub one-way : (id ≡ 0 → ⊥) → gone ≡ 0
   pub ordered : Ordered g list
   pub call : Call
-  pub judged : judge g (piecesOn g m) call ≡ answered (editOf gone (pairsFrom list) id)
+  pub judged : judge g none (piecesOn g m) call ≡ answered (editOf gone (pairsFrom list) id)
 
 -- the bytes after it
 abbrev pub editedMap : List ℕ → Edit → List ℕ

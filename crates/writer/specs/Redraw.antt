@@ -2,11 +2,10 @@
 use mathlib.Core.Path.{_≡_}
 use mathlib.Core.Bool.{Bool, cond}
 use mathlib.Core.List.{List, [], _++_}
-use Prim.Native.Nat.{ℕ, suc, _+_, _-_, _*_, _^_, _<_, _≤_}
+use Prim.Native.Nat.{ℕ, _+_, _*_, _^_, _<_, _≤_}
 use lib.Dec.{ltb}
 use lib.ListN.{take, drop}
-use Rattle.bits.specs.Bits.{numberBits}
-use Rattle.model.specs.Fragments.{closed, fragmentBits}
+use Rattle.model.specs.Fragments.{fragmentThen, fragmentBits}
 use Rattle.model.specs.Pieces.{Piece}
 use Rattle.model.specs.Drawing.{GapRoom, gap, firstFree, draw}
 
@@ -21,7 +20,7 @@ pub record GapAsks (n idlen hole to next : ℕ) : Type 0 where
 
 -- the bits with a fragment written at `at`
 abbrev pub fragmentPut : ℕ → ℕ → ℕ → ℕ → List Bool → List Bool
-fragmentPut idlen at len id old = take at old ++ (numberBits idlen id ++ closed (len - suc idlen) (drop (at + len) old))
+fragmentPut idlen at len id old = take at old ++ fragmentThen idlen (record { id = id; len = len }) (drop (at + len) old)
 
 -- the bits `old` have become `new` by that gap, and `first` is where the first gap starts now
 pub record GapDrawn (idlen hole to next : ℕ) (old new : List Bool) (first : ℕ) : Type 0 where
