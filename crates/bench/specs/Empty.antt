@@ -1,7 +1,6 @@
 -- Which empty programs the contracts shut out (document 01, "Which empty programs each statement shuts out"): no call's contract can
 -- be met by a program that refuses always, that gives one answer always or that writes nothing, nor a sweep's by one that writes
 -- everywhere. The contracts are the promises of the calls themselves. Assumes nothing.
-use mathlib.Core.Path.{_≡_}
 use mathlib.Core.List.{List}
 use Prim.Native.Nat.{ℕ}
 use lib.ListN.{length, replicate}

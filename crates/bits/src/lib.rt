@@ -78,13 +78,13 @@ pub fn write_number(s: &mut [u8], at: usize, n: usize, v: u32)
 }
 
 // How many bits of a number were written, and what is left of it.
-struct Part {
+struct Rest {
     bits: usize,
     left: u32,
 }
 
 // The lowest bits of w, written from bit b on: 8 where they are a byte and n leaves room for it, and else one.
-fn write_some(s: &mut [u8], b: usize, n: usize, w: u32) -> Part
+fn write_some(s: &mut [u8], b: usize, n: usize, w: u32) -> Rest
     requires { ⌜ (0 < n) × (b + n ≤ length (now s) * 8) × (b + n < 2 ^ 64) ⌝ }
     ensures room { λ r. ⌜ (0 < r .bits) × (r .bits ≤ n) ⌝ }
     ensures bits { λ r.
@@ -93,13 +93,13 @@ fn write_some(s: &mut [u8], b: usize, n: usize, w: u32) -> Part
 {
     if both(b % 8 == 0, 8 <= n) {
         s[b / 8] = (w % 256) as u8;
-        return Part {
+        return Rest {
             bits: 8,
             left: w / 256,
         };
     }
     write_bit(s, b, w % 2 == 1);
-    Part {
+    Rest {
         bits: 1,
         left: w / 2,
     }

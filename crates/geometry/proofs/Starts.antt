@@ -12,7 +12,7 @@ use Rattle.geometry.specs.declared.Start.{Start}
 use Rattle.geometry.specs.declared.Start.the-variants as start
 use Rattle.geometry.specs.Record.{geometryFrom, eightZones}
 use Rattle.geometry.specs.Places.{startZone, idFrom}
-use Rattle.geometry.specs.Answers.{refusal, startOf, startNumbers, byName, StartsAt}
+use Rattle.geometry.specs.Answers.{refusal, startOf, startNumbers, byName, TellsStart}
 use Rattle.geometry.specs.declared.Refusal.{Refusal}
 use mathlib.Core.Bool.{Bool, true, false, cond}
 
@@ -43,7 +43,7 @@ module _ (g : Geometry) (id : ℕ) where
       (λ t. let p : g .zones * g .ids ≤ id = le-div-iff-mul-le pos .0 (ltb-false _ _ t) in t ∙ sym (le-ltb _ _ (rw mul-comm at p)))
 
 -- the answer's numbers are the paper's
-pub starts-at : (g : Geometry) (low id : ℕ) {r : Start} → r ≡ startOf g low id → StartsAt g low id r
+pub starts-at : (g : Geometry) (low id : ℕ) {r : Start} → r ≡ startOf g low id → TellsStart g low id r
 starts-at g low id e = record { answer = e; numbers = ap startNumbers e ∙ told (idFrom low g id) (startZone g id) }
   where
     told : (b : Bool) (z : ℕ) → startNumbers (byName b z) ≡ cond b (0, 0, z) (8, 0, 0)

@@ -63,6 +63,6 @@ abbrev pub startTold : Geometry → ℕ → ℕ → ℕ × ℕ × ℕ
 startTold g low id = cond (idFrom low g id) (0, 0, startZone g id) (8, 0, 0)
 
 -- the answer to an id, and its numbers
-pub record StartsAt (g : Geometry) (low id : ℕ) (r : Start) : Type 0 where
+pub record TellsStart (g : Geometry) (low id : ℕ) (r : Start) : Type 0 where
   pub answer : r ≡ startOf g low id
   pub numbers : startNumbers r ≡ startTold g low id

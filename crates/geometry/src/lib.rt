@@ -10,7 +10,7 @@ ghost use Rattle.geometry.specs.Record.{clusterOf, twoBytes, recordIn, g
 ghost use Rattle.geometry.specs.Ranges.{FieldRules, between, fieldsFit, geometryFits};
 ghost use Rattle.geometry.specs.Accepted.{SmallNumbers, AcceptedGeometry};
 ghost use Rattle.geometry.specs.Places.{firstBit, endBit, discBit, blockBit, zoneOf, zoneFrom, discBits, idFrom};
-ghost use Rattle.geometry.specs.Answers.{refusal, ReadsRecord, StartsAt};
+ghost use Rattle.geometry.specs.Answers.{refusal, ReadsRecord, TellsStart};
 ghost use Rattle.geometry.specs.Laws.{GeometryLaws};
 
 // The fields of a disc record that are judged, by document 01's names.
@@ -95,7 +95,7 @@ pub fn refuse(number: u32) -> Refusal
 impl Geometry {
     // The zone where the search for an object's first fragment starts. Refused with 8: an id outside `low` to P*nzones - 1.
     pub fn start_zone(self, low: u32, id: u32) -> Start
-        ensures { λ r. ⌜ StartsAt self low id r ⌝ }
+        ensures { λ r. ⌜ TellsStart self low id r ⌝ }
     {
         let n = id as usize;
         if self.ids == 0 {

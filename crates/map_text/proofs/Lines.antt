@@ -13,15 +13,15 @@ use Rattle.walk.specs.Remaining.{remaining, Stands, Advances}
 use Rattle.walk.proofs.Remains.{none-remain}
 use Rattle.map_text.specs.declared.Left.{Left}
 use Rattle.map_text.specs.declared.Left.the-variants.{Lines, Refused, Nothing}
-use Rattle.map_text.specs.declared.Part.{Part}
+use Rattle.map_text.specs.declared.TextPart.{TextPart}
 use Rattle.map_text.specs.Text.{lineText, refusalText, linesText}
-use Rattle.map_text.specs.Parts.{Puts, leftText, Ready, IsPart}
+use Rattle.map_text.specs.Parts.{Puts, leftText, Ready, IsNextPart}
 use Rattle.map_text.proofs.Pieces.{puts-kept, puts-then, puts-first}
 
 -- a part is text at the start of the buffer
-module _ {m : List ℕ} {left : Left} {old : List ℕ} {r : Part} {new : List ℕ} (p : List ℕ) where
+module _ {m : List ℕ} {left : Left} {old : List ℕ} {r : TextPart} {new : List ℕ} (p : List ℕ) where
   part-is : Ready m (r .left) → Puts p old 0 (r .len) new → leftText m left ≡ p ++ leftText m (r .left)
-      → (r .len ≡ 0 → leftText m left ≡ []) → IsPart m left old r new
+      → (r .len ≡ 0 → leftText m left ≡ []) → IsNextPart m left old r new
   part-is ready a e none = record {
     ready = ready;
     fits = a .within;
@@ -30,8 +30,8 @@ module _ {m : List ℕ} {left : Left} {old : List ℕ} {r : Part} {new : List �
     ends = none;
   }
 
-pub part-of : {m : List ℕ} {left known : Left} {old : List ℕ} {r : Part} {new : List ℕ} → left ≡ known → IsPart m known old r new → IsPart m left old r new
-part-of {m} {old = old} {r = r} {new = new} e p = subst (λ (l : Left). IsPart m l old r new) (sym e) p
+pub part-of : {m : List ℕ} {left known : Left} {old : List ℕ} {r : TextPart} {new : List ℕ} → left ≡ known → IsNextPart m known old r new → IsNextPart m left old r new
+part-of {m} {old = old} {r = r} {new = new} e p = subst (λ (l : Left). IsNextPart m l old r new) (sym e) p
 
 pub lines-ready : {m : List ℕ} {left : Left} {g : Geometry} {w : Walk} → left ≡ Lines g w → Ready m left → Stands m g w
 lines-ready {m} e r = subst (Ready m) e r
@@ -40,11 +40,11 @@ no-bytes : (p : List ℕ) → length p ≡ 0 → p ≡ []
 no-bytes [] e = refl
 no-bytes (x ∷ p) e = absurd (omega arith)
 
-pub nothing-part : (m old : List ℕ) → IsPart m Nothing old (record { len = 0; left = Nothing }) old
+pub nothing-part : (m old : List ℕ) → IsNextPart m Nothing old (record { len = 0; left = Nothing }) old
 nothing-part m old = record { ready = tt; fits = omega arith; part = refl; beyond = refl; ends = λ _. refl }
 
 pub refusal-part : (m : List ℕ) (r : Refusal) {old new : List ℕ} {n : ℕ} → Puts (refusalText r) old 0 n new
-    → IsPart m (Refused r) old (record { len = n; left = Nothing }) new
+    → IsNextPart m (Refused r) old (record { len = n; left = Nothing }) new
 refusal-part m r a =
     part-is (refusalText r) tt a (sym (append-nil (refusalText r))) (λ e. no-bytes (refusalText r) (omega (arith, a .next)))
 
@@ -75,10 +75,10 @@ module _ {m : List ℕ} {g : Geometry} {from : Walk} {old new : List ℕ} {at : 
   }
 
   -- the buffer is full, or no line remains
-  pub filled-full : 0 < at → IsPart m (Lines g from) old (record { len = at; left = Lines g w }) new
+  pub filled-full : 0 < at → IsNextPart m (Lines g from) old (record { len = at; left = Lines g w }) new
   filled-full h = part-is (f .passed) (f .stands) (f .stored) (f .told) (λ e. absurd (omega arith))
 
-  pub filled-ends : g .zones ≤ w .zone → IsPart m (Lines g from) old (record { len = at; left = Nothing }) new
+  pub filled-ends : g .zones ≤ w .zone → IsNextPart m (Lines g from) old (record { len = at; left = Nothing }) new
   unfolding linesText
   filled-ends h =
       let e : linesText (remaining m g (g .zones) from) ≡ f .passed ++ [] =

@@ -5,9 +5,9 @@ use Prim.Native.Nat.{ℕ, _<_, _≤_}
 use native.Mathlib.Omega.{arith}
 use lib.ListN.{length, take, length-append, length-take}
 use Rattle.map_text.specs.declared.Left.{Left}
-use Rattle.map_text.specs.declared.Part.{Part}
+use Rattle.map_text.specs.declared.TextPart.{TextPart}
 use Rattle.map_text.specs.Text.{programText}
-use Rattle.map_text.specs.Parts.{leftText, Begins, IsPart}
+use Rattle.map_text.specs.Parts.{leftText, Begins, IsNextPart}
 
 pub length-first : (n : ℕ) (l : List ℕ) → n ≤ length l → length (take n l) ≡ n
 length-first n l h = omega (arith, length-take n l)
@@ -19,7 +19,7 @@ pub record Written (m : List ℕ) (left : Left) : Type 0 where
 pub written-starts : {m : List ℕ} {left : Left} → Begins m left → Written m left
 written-starts b = record { bytes = []; whole = b .all }
 
-module _ {m : List ℕ} {left : Left} {old : List ℕ} {r : Part} {new : List ℕ} (p : IsPart m left old r new) where
+module _ {m : List ℕ} {left : Left} {old : List ℕ} {r : TextPart} {new : List ℕ} (p : IsNextPart m left old r new) where
   -- a part is written after those before it
   pub written-on : Written m left → Written m (r .left)
   written-on w = record {

@@ -5,11 +5,11 @@ use Prim.Native.Nat.{ℕ, _+_, _-_, _*_, _<_, _≤_}
 use lib.ListN.{length, getD, take, replicate}
 use Rattle.checks.specs.Maps.{mapA, mapB}
 use Rattle.map_text.specs.declared.Left.{Left}
-use Rattle.map_text.specs.declared.Part.{Part}
+use Rattle.map_text.specs.declared.TextPart.{TextPart}
 use Rattle.map_text.specs.Ascii.{ascii}
 use Rattle.map_text.specs.Decimal.{decimal}
 use Rattle.map_text.specs.Text.{mapText, programText}
-use Rattle.map_text.specs.Parts.{Begins, IsPart}
+use Rattle.map_text.specs.Parts.{Begins, IsNextPart}
 
 -- the number that digits spell after a number
 abbrev pub spelt : ℕ → List ℕ → ℕ
@@ -23,8 +23,8 @@ Digits (d ∷ ds) = (48 ≤ d) × (d ≤ 57) × Digits ds
 
 -- what is printed: part after part, whatever buffer each is made in, until one has no bytes
 pub data Printed (m : List ℕ) : Left → List ℕ → Type 0 where
-  done : {left : Left} {old : List ℕ} {r : Part} {new : List ℕ} → IsPart m left old r new → r .len ≡ 0 → Printed m left []
-  more : {left : Left} {old : List ℕ} {r : Part} {new text : List ℕ} → IsPart m left old r new → Printed m (r .left) text
+  done : {left : Left} {old : List ℕ} {r : TextPart} {new : List ℕ} → IsNextPart m left old r new → r .len ≡ 0 → Printed m left []
+  more : {left : Left} {old : List ℕ} {r : TextPart} {new text : List ℕ} → IsNextPart m left old r new → Printed m (r .left) text
       → Printed m left (take (r .len) new ++ text)
 
 pub record TextLaws : Type 0 where

@@ -7,7 +7,7 @@ use lib.Seq.{sets}
 use Rattle.walk.specs.Remaining.{remaining, Stands}
 use Rattle.map_text.specs.declared.Left.{Left}
 use Rattle.map_text.specs.declared.Left.the-variants.{Lines, Refused, Nothing}
-use Rattle.map_text.specs.declared.Part.{Part}
+use Rattle.map_text.specs.declared.TextPart.{TextPart}
 use Rattle.map_text.specs.Text.{linesText, refusalText, programText}
 
 -- bytes stored from index `at` on; r is the index after them
@@ -35,7 +35,7 @@ pub record Begins (m : List ℕ) (left : Left) : Type 0 where
 
 -- a part in a lent buffer: with what is left after it, it is what was left before it; the bytes past it are untouched; and it has no
 -- bytes only where nothing is left
-pub record IsPart (m : List ℕ) (left : Left) (old : List ℕ) (r : Part) (new : List ℕ) : Type 0 where
+pub record IsNextPart (m : List ℕ) (left : Left) (old : List ℕ) (r : TextPart) (new : List ℕ) : Type 0 where
   pub ready : Ready m (r .left)
   pub fits : r .len ≤ length new
   pub part : leftText m left ≡ take (r .len) new ++ leftText m (r .left)

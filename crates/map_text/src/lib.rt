@@ -17,7 +17,7 @@ ghost use Rattle.map_text.specs.declared.Left.the-variants as left;
 ghost use Rattle.map_text.specs.Ascii.{ascii};
 ghost use Rattle.map_text.specs.Decimal.{decimal, lastDigit};
 ghost use Rattle.map_text.specs.Text.{ownerText, pairText, inputChecked};
-ghost use Rattle.map_text.specs.Parts.{Puts, Ready, Begins, IsPart};
+ghost use Rattle.map_text.specs.Parts.{Puts, Ready, Begins, IsNextPart};
 ghost use Rattle.map_text.specs.Laws.{TextLaws};
 
 // What is left to print: the lines of an accepted map from a fragment on, a refusal, or nothing.
@@ -28,7 +28,7 @@ pub enum Left {
 }
 
 // How many bytes of the buffer are the next part of the text, and what is left after it.
-pub struct Part {
+pub struct TextPart {
     pub len: usize,
     pub left: Left,
 }
@@ -42,7 +42,7 @@ pub fn print(buffer: &[u8], n: usize)
     print_parts(&buffer[..n], &mut text);
 }
 
-// Part after part, until nothing is left. No contract can speak of what is written, so this one says nothing; the loop's invariant
+// TextPart after part, until nothing is left. No contract can speak of what is written, so this one says nothing; the loop's invariant
 // keeps the parts handed over so far, which with what is left are the text.
 fn print_parts(input: &[u8], text: &mut [u8])
     requires { ⌜ 33 ≤ length (now text) ⌝ }
@@ -83,18 +83,18 @@ fn check_input(input: &[u8]) -> Checked
 }
 
 // Puts the next part of the text at the start of a buffer, which has room for at least one line.
-pub fn next_part(map: &[u8], left: Left, text: &mut [u8]) -> Part
+pub fn next_part(map: &[u8], left: Left, text: &mut [u8]) -> TextPart
     requires { ⌜ Ready (now map) left × (33 ≤ length (now text)) ⌝ }
-    ensures { λ r. ⌜ IsPart (now (map .entry)) left (now (text .entry)) r (now (text .exit)) ⌝ }
+    ensures { λ r. ⌜ IsNextPart (now (map .entry)) left (now (text .entry)) r (now (text .exit)) ⌝ }
 {
     match left {
-        Left::Nothing => Part {
+        Left::Nothing => TextPart {
             len: 0,
             left: Left::Nothing,
         },
         Left::Refused(r) => {
             let len = put_refusal(r.number, r.zone, text);
-            Part {
+            TextPart {
                 len,
                 left: Left::Nothing,
             }
@@ -104,9 +104,9 @@ pub fn next_part(map: &[u8], left: Left, text: &mut [u8]) -> Part
 }
 
 // As many whole lines as surely fit; a line for which there may be no room starts the next part.
-fn lines_part(map: &[u8], g: Geometry, from: Walk, text: &mut [u8]) -> Part
+fn lines_part(map: &[u8], g: Geometry, from: Walk, text: &mut [u8]) -> TextPart
     requires { ⌜ Stands (now map) g from × (33 ≤ length (now text)) ⌝ }
-    ensures { λ r. ⌜ IsPart (now (map .entry)) (left.Lines g from) (now (text .entry)) r (now (text .exit)) ⌝ }
+    ensures { λ r. ⌜ IsNextPart (now (map .entry)) (left.Lines g from) (now (text .entry)) r (now (text .exit)) ⌝ }
 {
     let zones = g.zones;
     let last = text.len() - 33;
@@ -114,7 +114,7 @@ fn lines_part(map: &[u8], g: Geometry, from: Walk, text: &mut [u8]) -> Part
     let mut w = from;
     while w.zone < zones {
         if last < at {
-            return Part {
+            return TextPart {
                 len: at,
                 left: Left::Lines(g, w),
             };
@@ -124,7 +124,7 @@ fn lines_part(map: &[u8], g: Geometry, from: Walk, text: &mut [u8]) -> Part
         at = put_line(line.holder, line.start, line.len, text, at);
         w = s.after;
     }
-    Part {
+    TextPart {
         len: at,
         left: Left::Nothing,
     }

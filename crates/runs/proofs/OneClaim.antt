@@ -15,7 +15,7 @@ use Rattle.edits.specs.Judge.{need, taken}
 use Rattle.edits.specs.Room.{In, Earlier}
 use Rattle.model.specs.Shown.{spansOn}
 use Rattle.runs.specs.Claims.{ClaimRules}
-use Rattle.runs.specs.Refusals.{Claimed}
+use Rattle.runs.specs.Refusals.{ClaimTakes}
 
 -- of two entries that differ one comes first
 one-earlier : (h k : Pair) (hs : List Pair) → In h hs → In k hs → (h ≡ k) ⊎ (Earlier h k hs ⊎ Earlier k h hs)
@@ -70,7 +70,7 @@ module _ (m : List ℕ) (size : ℕ) where
       h : Pair
       h = a .hole
 
-  pub one-claim : (r s : Answer Edit) → Claimed m size r → Claimed m size s → r ≡ s
+  pub one-claim : (r s : Answer Edit) → ClaimTakes m size r → ClaimTakes m size s → r ≡ s
   one-claim r s x y =
       let a = x .3 in
       let b = y .3 in

@@ -35,7 +35,7 @@ use Rattle.edits.proofs.PairsGiven.{none-listed}
 use Rattle.edits.proofs.ReadsAfter.{same-pieces}
 use Rattle.runs.specs.ListRules.{ListRules}
 use Rattle.runs.specs.ListRoom.{NoRoom}
-use Rattle.runs.specs.Refusals.{nine, ten, eleven, twelve, twelveClaim, thirteen, fourteen, fifteen, seventeen, releaseLines, placeLines, claimLines, Claimed}
+use Rattle.runs.specs.Refusals.{nine, ten, eleven, twelve, twelveClaim, thirteen, fourteen, fifteen, seventeen, releaseLines, placeLines, claimLines, ClaimTakes}
 use Rattle.runs.proofs.Touches.{map-apart, map-touches}
 use Rattle.runs.proofs.Twelve.{fits-gives-rules, rules-give-fits}
 use Rattle.runs.proofs.RoomForList as room
@@ -178,7 +178,7 @@ module _ (m : List ℕ) where
 
     -- claim
     module _ (size : ℕ) where
-      claimed : Editable m → LinesSay (fourteen m ∷ fifteen m size ∷ []) (Claimed m size) (byChoice (chosen (geometryOf m) (piecesOn (geometryOf m) m) size))
+      claimed : Editable m → LinesSay (fourteen m ∷ fifteen m size ∷ []) (ClaimTakes m size) (byChoice (chosen (geometryOf m) (piecesOn (geometryOf m) m) size))
       claimed ed = go (lowest l ids 3) refl (firstHole n hs) refl
         where
           ids : ℕ
@@ -194,7 +194,7 @@ module _ (m : List ℕ) where
           unused id a k = k id (lowest-least l ids 3 id a) (omega (arith, lowest-lt l ids 3 id a)) (same-pieces g id l [] (lowest-absent l ids 3 id a))
 
           go : (i : Option ℕ) → lowest l ids 3 ≡ i → (o : Option Pair) → firstHole n hs ≡ o
-              → LinesSay (fourteen m ∷ fifteen m size ∷ []) (Claimed m size) (byChoice (chooseIn i o (g .shortest) n))
+              → LinesSay (fourteen m ∷ fifteen m size ∷ []) (ClaimTakes m size) (byChoice (chooseIn i o (g .shortest) n))
           go none a o b = inl (0, (refl, λ i lo hi k. lowest-used l ids 3 a i lo (omega arith) (none-listed g i l k)), refl)
           go (some id) a none b = inr ((λ z p. unused id a (p .1)), inl (0, (refl, λ h i. none-long n hs b h (subst (In h) (spans-holes m ed) i)), refl))
           go (some id) a (some h) b =
@@ -207,16 +207,16 @@ module _ (m : List ℕ) where
                 ),
               )
 
-      claim-lines : mapRead m ≡ answered (zonesOf m) → LinesSay (claimLines m size) (Claimed m size) (byRead (geometryOf m) (claim size) (zonesOf m))
+      claim-lines : mapRead m ≡ answered (zonesOf m) → LinesSay (claimLines m size) (ClaimTakes m size) (byRead (geometryOf m) (claim size) (zonesOf m))
       claim-lines r =
           let rest = fourteen m ∷ fifteen m size ∷ [] in
           let v = byChoice (chosen g l size) in
-          touch-line r (twelveClaim m size ∷ rest) (Claimed m size) (unless (ltb 0 size) 12 v) (touching 0 (zonesOf m)) refl
-          (λ n. unless-says (ltb 0 size) 12 (size ≡ 0) rest (Claimed m size) v
+          touch-line r (twelveClaim m size ∷ rest) (ClaimTakes m size) (unless (ltb 0 size) 12 v) (touching 0 (zonesOf m)) refl
+          (λ n. unless-says (ltb 0 size) 12 (size ≡ 0) rest (ClaimTakes m size) v
           (λ t. omega (arith, ltb-false 0 size t)) (λ t k. omega (arith, ltb-true 0 size t)) (λ t. claimed (editable-map r n)))
 
-      pub claim-by-table : Exactly (TableSays m (claimLines m size) (Claimed m size)) (outcome m (claim size))
+      pub claim-by-table : Exactly (TableSays m (claimLines m size) (ClaimTakes m size)) (outcome m (claim size))
       claim-by-table =
-          table-says m (claimLines m size) (Claimed m size) (nine-one m, (line-one 12 _, (line-one 14 _, (line-one 15 _, tt)))) (one-claim m size) (byRead g (claim size))
-          (λ ess e. subst (λ (x : List (List Entry)). LinesSay (claimLines m size) (Claimed m size) (byRead g (claim size) x)) (zones-read ess e)
+          table-says m (claimLines m size) (ClaimTakes m size) (nine-one m, (line-one 12 _, (line-one 14 _, (line-one 15 _, tt)))) (one-claim m size) (byRead g (claim size))
+          (λ ess e. subst (λ (x : List (List Entry)). LinesSay (claimLines m size) (ClaimTakes m size) (byRead g (claim size) x)) (zones-read ess e)
           (claim-lines (read-zones ess e)))

@@ -13,7 +13,7 @@ use Rattle.model.specs.Shown.{zonesOf, listedOn}
 use Rattle.edits.specs.Edits.{takes, gives}
 use Rattle.edits.specs.Judge.{release, place, claim, pairsFrom}
 use Rattle.edits.specs.Steps.{outcome}
-use Rattle.runs.specs.Refusals.{nine, releaseLines, placeLines, claimLines, Claimed}
+use Rattle.runs.specs.Refusals.{nine, releaseLines, placeLines, claimLines, ClaimTakes}
 
 pub record EditTable : Type 0 where
   -- 9: the zone found by going through the fragments is the one that the line tells, and there is none exactly where the line tells none
@@ -25,4 +25,4 @@ pub record EditTable : Type 0 where
   pub place-by-table : (m : List ℕ) → Bytes m → (id : ℕ) (list : List ℕ)
       → Exactly (ByTable m (placeLines m id list) (gives id (pairsFrom list))) (outcome m (place id list))
   -- "Claim: given a size in bytes": the id and the pair by their rules
-  pub claim-by-table : (m : List ℕ) → Bytes m → (size : ℕ) → Exactly (TableSays m (claimLines m size) (Claimed m size)) (outcome m (claim size))
+  pub claim-by-table : (m : List ℕ) → Bytes m → (size : ℕ) → Exactly (TableSays m (claimLines m size) (ClaimTakes m size)) (outcome m (claim size))

@@ -85,5 +85,5 @@ module _ (m : List ℕ) where
   claimLines size = nine ∷ twelveClaim size ∷ fourteen ∷ fifteen size ∷ []
 
   -- what a claim that none of these refuses answers: one pair goes to one id, by the rules
-  abbrev pub Claimed : ℕ → Answer Edit → Type 0
-  Claimed size r = (id : ℕ) × (q : Pair) × (r ≡ answered (gives id (q ∷ []))) × ClaimRules m size id q
+  abbrev pub ClaimTakes : ℕ → Answer Edit → Type 0
+  ClaimTakes size r = (id : ℕ) × (q : Pair) × (r ≡ answered (gives id (q ∷ []))) × ClaimRules m size id q

@@ -135,7 +135,9 @@ pub extern "C" fn shoalswift_sweep_object(
     count: &mut u64,
     zone: &mut u32,
 ) -> u32
-    ensures { λ r. ⌜ SweepTold (objectSweep (now (map .entry)) id) first fill (now (image .entry)) (r, now (zone .exit), now (count .exit)) (now (image .exit)) ⌝ }
+    ensures { λ r.
+        ⌜ SweepTold (objectSweep (now (map .entry)) id) first fill (now (image .entry))
+        (r, now (zone .exit), now (count .exit)) (now (image .exit)) ⌝ }
 {
     let r = sweep::sweep_object(map, image, first, fill, id);
     count_told(r, count, zone)

@@ -65,7 +65,9 @@ fn sweep_class(
     fill: u8,
 ) -> Swept
     requires { ⌜ AcceptedMap (now map) g ⌝ }
-    ensures { λ r. ⌜ Sweeps (heldSweep g holder (now (map .entry)) first (length (now (image .entry)))) first fill (now (image .entry)) r (now (image .exit)) ⌝ }
+    ensures { λ r.
+        ⌜ Sweeps (heldSweep g holder (now (map .entry)) first (length (now (image .entry))))
+        first fill (now (image .entry)) r (now (image .exit)) ⌝ }
 {
     if ends_past(g, first, image.len()) {
         return Swept::Refused(refuse(16));

@@ -13,16 +13,14 @@ use geometry::DiscBit;
 use geometry::Geometry;
 ghost use mathlib.Core.Path.{_≡_};
 ghost use mathlib.Core.Bool.{cond, _&&_};
-ghost use mathlib.Core.List.{List, _++_, map};
-ghost use Prim.Native.Nat.{ℕ, suc, _+_, _-_, _*_, _/_, _%_, _^_, _<_, _≤_};
+ghost use mathlib.Core.List.{map};
+ghost use Prim.Native.Nat.{_+_, _-_, _*_, _/_, _%_, _^_, _<_, _≤_};
 ghost use lib.Dec.{eqb, ltb};
-ghost use lib.ListN.{length, take, drop};
+ghost use lib.ListN.{length, drop};
 ghost use lib.Bits.{bitXor};
 ghost use Rattle.bits.specs.Bits.{byteBits};
 ghost use Rattle.checks.specs.Cross.{crossOf, touchedCount};
 ghost use Rattle.geometry.specs.Accepted.{AcceptedGeometry};
-ghost use Rattle.model.specs.Pieces as model;
-ghost use Rattle.model.specs.Rules.{zoneBlock};
 ghost use Rattle.map.specs.Accepted.{ReadableFrom};
 ghost use Rattle.edits.specs.Edits.{without, touchedZones};
 ghost use Rattle.edits.specs.Judge.{pairsFrom};
@@ -159,13 +157,13 @@ fn merge_pairs(pieces: &mut [u32], n: usize, list: &[u32], id: u32)
 }
 
 // What is left of a merge: so many pieces, and so many pairs.
-struct Left {
+struct Unmerged {
     pieces: usize,
     pairs: usize,
 }
 
 // Moves the last of i pieces or of j pairs to its place, whichever starts last.
-fn move_last(pieces: &mut [u32], i: usize, list: &[u32], j: usize, id: u32) -> Left
+fn move_last(pieces: &mut [u32], i: usize, list: &[u32], j: usize, id: u32) -> Unmerged
     requires { ⌜ (0 < j) × (3 * (i + j) ≤ length (now pieces)) × (2 * j ≤ length (now list)) ⌝ }
     ensures fewer { λ r. ⌜ (r .pieces + r .pairs + 1 ≡ i + j) × (r .pairs ≤ j) ⌝ }
     ensures same { λ r. ⌜ MergesOn id (now (list .entry)) (now (pieces .entry)) i j (now (pieces .exit)) (r .pieces) (r .pairs) ⌝ }
@@ -177,7 +175,7 @@ fn move_last(pieces: &mut [u32], i: usize, list: &[u32], j: usize, id: u32) -> L
         let top = i - 1;
         let x = piece_at(pieces, top);
         put_piece(pieces, i + last, x);
-        return Left {
+        return Unmerged {
             pieces: top,
             pairs: j,
         };
@@ -191,7 +189,7 @@ fn move_last(pieces: &mut [u32], i: usize, list: &[u32], j: usize, id: u32) -> L
             len: q.len,
         },
     );
-    Left {
+    Unmerged {
         pieces: i,
         pairs: last,
     }

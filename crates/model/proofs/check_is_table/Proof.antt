@@ -3,8 +3,6 @@ use Rattle.model.proofs.SixCases.{case-is-six, six-is-case}
 use Rattle.model.proofs.MapJudged.{answer-is-judged, judged-is-answer, accepted-keeps-rules, rules-accepted}
 use Rattle.model.proofs.check_is_table.Statement.{statement}
 use Rattle.model.proofs.check_is_table.Tie as tie
-use Rattle.model.proofs.check_is_table.Reads as reads
-use Rattle.model.proofs.check_is_table.Lts as lts
 
 -- src/lib.rt:8:1
 returns : tie.Need-returns

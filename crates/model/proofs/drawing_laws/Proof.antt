@@ -1,10 +1,7 @@
 -- The laws of `ZoneDrawn`, with the id's length as it stands.
-use Prim.Native.Nat.{_-_}
 use Rattle.model.proofs.ZoneDrawn.{read-drawn, owned-drawn, drawn-read}
 use Rattle.model.proofs.drawing_laws.Statement.{statement}
 use Rattle.model.proofs.drawing_laws.Tie as tie
-use Rattle.model.proofs.drawing_laws.Reads as reads
-use Rattle.model.proofs.drawing_laws.Lts as lts
 
 -- src/lib.rt:14:1
 returns : tie.Need-returns

@@ -2,10 +2,6 @@ use borrow.Author.Needs.{needs}
 use Prim.Native.Nat.{_-_, _≤_}
 use Rattle.vectors.proofs.print_changed_bytes.Statement.{statement}
 use Rattle.vectors.proofs.print_changed_bytes.Tie as tie
-use Rattle.vectors.proofs.print_changed_bytes.Reads as reads
-use Rattle.vectors.proofs.print_changed_bytes.Lts as lts
-use Rattle.bits.proofs.wide.Reads as wide-reads
-use Rattle.vectors.proofs.print_change.Reads as print-change-reads
 
 abbrev Inv-loop : tie.InvT-loop
 Inv-loop bytes n i₀ i = i ≤ n

@@ -2,10 +2,6 @@ use borrow.Author.Needs.{needs}
 use Prim.Native.Nat.{_-_, _≤_}
 use Rattle.vectors.proofs.print_changed_entries.Statement.{statement}
 use Rattle.vectors.proofs.print_changed_entries.Tie as tie
-use Rattle.vectors.proofs.print_changed_entries.Reads as reads
-use Rattle.vectors.proofs.print_changed_entries.Lts as lts
-use Rattle.vectors.proofs.entry.Reads as entry-reads
-use Rattle.vectors.proofs.print_change.Reads as print-change-reads
 
 abbrev Inv-loop : tie.InvT-loop
 Inv-loop list n i₀ i = i ≤ n

@@ -2,9 +2,6 @@ use borrow.Author.Needs.{needs}
 use Prim.Native.Nat.{_-_, _≤_}
 use Rattle.vectors.proofs.print_changed_runs.Statement.{statement}
 use Rattle.vectors.proofs.print_changed_runs.Tie as tie
-use Rattle.vectors.proofs.print_changed_runs.Reads as reads
-use Rattle.vectors.proofs.print_changed_runs.Lts as lts
-use Rattle.vectors.proofs.print_edge.Reads as print-edge-reads
 
 abbrev Inv-loop : tie.InvT-loop
 Inv-loop bytes n inside₀ i₀ inside i = i ≤ n

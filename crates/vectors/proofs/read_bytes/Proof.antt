@@ -4,9 +4,6 @@ use mathlib.Core.Path.{_≡_}
 use lib.ListN.{length}
 use Rattle.vectors.proofs.read_bytes.Statement.{statement}
 use Rattle.vectors.proofs.read_bytes.Tie as tie
-use Rattle.vectors.proofs.read_bytes.Reads as reads
-use Rattle.vectors.proofs.read_bytes.Lts as lts
-use Rattle.io.proofs.read_full.Reads as read-full-reads
 
 abbrev Inv-loop : tie.InvT-loop
 Inv-loop bytes₀ n i₀ bytes i = (i ≤ n) × (length bytes ≡ length bytes₀)

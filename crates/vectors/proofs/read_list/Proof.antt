@@ -5,9 +5,6 @@ use lib.ListN.{length, length-set}
 use native.Mathlib.Omega.{arith}
 use Rattle.vectors.proofs.read_list.Statement.{statement}
 use Rattle.vectors.proofs.read_list.Tie as tie
-use Rattle.vectors.proofs.read_list.Reads as reads
-use Rattle.vectors.proofs.read_list.Lts as lts
-use Rattle.vectors.proofs.read_entry.Reads as read-entry-reads
 
 abbrev Inv-loop : tie.InvT-loop
 Inv-loop list₀ n i₀ list i = (i ≤ n) × (length list ≡ length list₀)

@@ -1,6 +1,5 @@
 -- A zone's disc bits start with that of its first allocation bit.
 use mathlib.Core.Path.{sym, ap, _∙_}
-use Prim.Native.Nat.{ℕ}
 use borrow.Author.Needs.{needs}
 use Rattle.geometry.specs.Places.{discBit}
 use Rattle.geometry.proofs.DiscBits.{zone-starts}
