@@ -42,7 +42,7 @@ pub fn print(buffer: &[u8], n: usize)
     print_parts(&buffer[..n], &mut text);
 }
 
-// TextPart after part, until nothing is left. No contract can speak of what is written, so this one says nothing; the loop's invariant
+// Part after part, until nothing is left. No contract can speak of what is written, so this one says nothing; the loop's invariant
 // keeps the parts handed over so far, which with what is left are the text.
 fn print_parts(input: &[u8], text: &mut [u8])
     requires { ⌜ 33 ≤ length (now text) ⌝ }
