@@ -1,7 +1,11 @@
 -- The laws of specs/Laws. Those of a map that was read hold since its reading is that of an accepted map.
-use mathlib.Core.Path.{_≡_, sym}
+use mathlib.Core.Path.{_≡_, sym, ap, ap₂, _∙_}
+use mathlib.Core.Bool.{Bool, false, cond}
 use mathlib.Core.List.{List}
-use Prim.Native.Nat.{ℕ, _<_}
+use Prim.Native.Nat.{ℕ, suc, _+_, _-_, _*_, _%_, _<_}
+use native.Mathlib.Omega.{arith}
+use lib.Dec.{eqb}
+use borrow.Author.Tests.{ne-eqb}
 use Rattle.geometry.specs.declared.Geometry.{Geometry}
 use Rattle.geometry.specs.Record.{geometryOf}
 use Rattle.model.specs.Chain.{Entry}
@@ -9,7 +13,7 @@ use Rattle.model.specs.Answer.{answered}
 use Rattle.model.specs.Check.{mapRead}
 use Rattle.model.specs.Pieces.{piecesOfZones, objectPairs}
 use Rattle.listing.proofs.Laws.{accepted, same-zones}
-use Rattle.address.specs.Address.{Sought, at, seek}
+use Rattle.address.specs.Address.{idOf, startOffset, Sought, at, seek}
 use Rattle.address.specs.Laws.{AddressLaws}
 use Rattle.address.proofs.ByTable.{address-by-table}
 use Rattle.address.proofs.OwnAnswers.{answer-is-byte, one-byte, answer-on-disc}
@@ -31,9 +35,26 @@ module _ (m : List ℕ) (ess : List (List Entry)) (e : mapRead m ≡ answered es
   on-disc : (id i x : ℕ) → (id ≡ 1 → ⊥) → sought id i ≡ at x → x < g .size
   on-disc id i x = rw (sym (same-zones m ess e)) (object-on-disc (accepted m ess e) id i x)
 
+-- internal numbers
+whole-object : (g : Geometry) (id : ℕ) → startOffset g (id * 256) ≡ 0
+whole-object g id = let e : id * 256 % 256 ≡ 0 = omega arith in rw e
+
+part-of-object : (g : Geometry) (id s : ℕ) → s < 255 → startOffset g (id * 256 + suc s) ≡ s * g .sector
+part-of-object g id s h =
+    let e : (id * 256 + suc s) % 256 ≡ suc s = omega arith in
+    let d : suc s - 1 ≡ s = omega arith in
+    let t : eqb (suc s) 0 ≡ false = ne-eqb (suc s) 0 (λ k. omega arith) in
+    ap (λ (x : ℕ). cond (eqb x 0) 0 ((x - 1) * g .sector)) e ∙ ap₂ (λ (b : Bool) (x : ℕ). cond b 0 (x * g .sector)) t d
+
+id-of : (id s : ℕ) → s < 256 → idOf (id * 256 + s) ≡ id
+id-of id s h = omega arith
+
 pub address-laws : AddressLaws
 address-laws = record {
   address-by-table = address-by-table;
+  whole-object = whole-object;
+  part-of-object = part-of-object;
+  id-of = id-of;
   answer-is-byte = answer-is-byte;
   one-byte = one-byte;
   answer-on-disc = answer-on-disc;

@@ -1,8 +1,9 @@
 -- What holds of addresses on an accepted map (demand 2). Assumes nothing.
 use mathlib.Core.Path.{_≡_}
 use mathlib.Core.List.{List}
-use Prim.Native.Nat.{ℕ, _+_, _<_}
+use Prim.Native.Nat.{ℕ, suc, _+_, _*_, _<_}
 use lib.ListN.{length, getD}
+use Rattle.geometry.specs.declared.Geometry.{Geometry}
 use Rattle.geometry.specs.Record.{geometryOf}
 use Rattle.model.specs.Chain.{Pair, Entry}
 use Rattle.model.specs.Answer.{answered}
@@ -16,6 +17,10 @@ use Rattle.address.specs.Refusals.{joined, addressLines, byteAddress}
 pub record AddressLaws : Type 0 where
   -- the call answers what its lines of the table say, in its order, and nothing else: each refusal "exactly when"
   pub address-by-table : (m : List ℕ) (n position : ℕ) → Exactly (ByTable m (addressLines m n position) (byteAddress m n position)) (addressFound m n position)
+  -- "id = n div 256, low byte s. Start offset is 0 for s = 0, else (s-1)*S."
+  pub whole-object : (g : Geometry) (id : ℕ) → startOffset g (id * 256) ≡ 0
+  pub part-of-object : (g : Geometry) (id s : ℕ) → s < 255 → startOffset g (id * 256 + suc s) ≡ s * g .sector
+  pub id-of : (id s : ℕ) → s < 256 → idOf (id * 256 + s) ≡ id
   -- The call's own answers. It answers the address of that byte of the object as `list` answers it;
   pub answer-is-byte : (m : List ℕ) (n position a : ℕ) → addressFound m n position ≡ answered a
       → (room : ℕ) (qs : List Pair) → objectFound m (idOf n) room ≡ answered qs

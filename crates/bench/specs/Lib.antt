@@ -1,3 +1,4 @@
 pub mod Questions
 pub mod Table
 pub mod Empty
+pub mod Tells

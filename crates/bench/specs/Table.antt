@@ -1,11 +1,10 @@
--- Document 01, "Bench examples": its rows, each a question and the numbers that it is answered with, and rows of our own that pin
--- what the laws leave free. Assumes nothing.
+-- Document 01, "Bench examples": its rows, each a question and the numbers that it is answered with, and rows of our own. Assumes nothing.
 use mathlib.Core.Bool.{true, false}
-use mathlib.Core.List.{List, [], _∷_}
+use mathlib.Core.List.{List, [], _∷_, _++_}
 use Prim.Native.Nat.{ℕ}
 use lib.ListN.{replicate}
 use Rattle.geometry.specs.Record.{geometryFrom, geometryOf, floppyDisc, eightZones}
-use Rattle.checks.specs.Maps.{withBytes, mapA, mapB}
+use Rattle.checks.specs.Maps.{withBytes, mapA, mapB, mapD}
 use Rattle.edits.specs.Judge as call
 use Rattle.bench.specs.Questions.{Question, record-read, check, list, free, address, sweepObject, sweepFree, counted, countedFree}
 use Rattle.bench.specs.Questions.{release, place, claim, after, start, sizes, bitsFor, change, answer}
@@ -31,17 +30,34 @@ lent = 9 ∷ 9 ∷ 9 ∷ 9 ∷ []
 abbrev mapC : List ℕ
 mapC = withBytes ((0, 0x35) ∷ (65, 0x88) ∷ (66, 0x81) ∷ (67, 0x04) ∷ (68, 0x08) ∷ []) mapA
 
--- A's record with two zones and disc_size 3,637,248: zone 0 free, in zone 1 object 2 at (1536,12) and the rest free. Zone 0's header,
--- the disc record, zone 0's allocation bits; zone 1's header, its allocation bits.
-abbrev mapD : List ℕ
-mapD =
+-- D with object 168, whose start zone is 1, placed at (1548,12) and then (0,12): an edit of two zones
+abbrev mapE : List ℕ
+mapE =
     withBytes
-    ((0, 0x31) ∷ (1, 0xF8) ∷ (2, 0x81) ∷ (3, 0xFF)
-    ∷ (4, 0x08) ∷ (8, 0x0B) ∷ (9, 0x0A) ∷ (13, 0x02) ∷ (14, 0x20) ∷ (21, 0x80) ∷ (22, 0x37)
-    ∷ (255, 0x80)
-    ∷ (256, 0x2E) ∷ (257, 0x24) ∷ (258, 0x80)
-    ∷ (260, 0x02) ∷ (261, 0x08) ∷ (511, 0x80) ∷ [])
-    (replicate 512 0)
+    ((0, 0x84) ∷ (1, 0x04) ∷ (2, 0x82) ∷ (3, 0xFE) ∷ (64, 0xA8) ∷ (65, 0x08)
+    ∷ (256, 0x32) ∷ (257, 0x30) ∷ (259, 0x01) ∷ (261, 0x88) ∷ (262, 0x8A) ∷ [])
+    mapD
+
+-- D with another zone check in zone 1
+abbrev spoiltD : List ℕ
+spoiltD = withBytes ((256, 0x2F) ∷ []) mapD
+
+-- A with object 5 placed in two pieces that touch, (12,12) and (24,12)
+abbrev twoPieces : List ℕ
+twoPieces = withBytes ((0, 0xDD) ∷ (1, 0x1C) ∷ (65, 0x58) ∷ (66, 0x80) ∷ (67, 0x05) ∷ (68, 0x08) ∷ []) mapA
+
+-- the record of the 800K floppy, as bytes, in a map of 64
+abbrev floppyBytes : List ℕ
+floppyBytes =
+    withBytes ((4, 0x0A) ∷ (8, 0x0F) ∷ (9, 0x07) ∷ (13, 0x01) ∷ (14, 0x20) ∷ (15, 0x05) ∷ (21, 0x80) ∷ (22, 0x0C) ∷ []) (replicate 64 0)
+
+-- A's record with these bytes
+abbrev recordA : List (ℕ × ℕ) → Question
+recordA bs = record-read (withBytes bs mapA)
+
+-- D with two free fragments of zone 1 that touch, (1548,12) and (1560,1992)
+abbrev touchingD : List ℕ
+touchingD = withBytes ((256, 0x6F) ∷ (261, 0xC8) ∷ (262, 0x80) ∷ []) mapD
 
 abbrev pub table : List Row
 table =
@@ -123,7 +139,59 @@ table =
     ∷ row (check (withBytes ((256, 0x2F) ∷ (257, 0x25) ∷ []) mapD)) (5 ∷ 1 ∷ [])
     ∷ row (check (withBytes ((256, 0xAE) ∷ (511, 0x00) ∷ []) mapD)) (6 ∷ 1 ∷ [])
     ∷ row (check (withBytes ((256, 0x2F) ∷ (260, 0x03) ∷ []) mapD)) (7 ∷ 1 ∷ [])
-    ∷ row (claim (withBytes ((256, 0x6F) ∷ (261, 0xC8) ∷ (262, 0x80) ∷ []) mapD) 1) (9 ∷ 1 ∷ 0 ∷ 0 ∷ 0 ∷ [])
+    ∷ row (claim touchingD 1) (9 ∷ 1 ∷ 0 ∷ 0 ∷ 0 ∷ [])
+    ∷ row (place touchingD 3 (0 ∷ 12 ∷ [])) (9 ∷ 1 ∷ [])
+    ∷ row (release touchingD 3 lent) (9 ∷ 1 ∷ 0 ∷ 9 ∷ 9 ∷ 9 ∷ 9 ∷ [])
+    -- An edit of one of two zones leaves the other's block and all cross checks alone; one of both changes both cross checks by 1. A
+    -- release returns the pairs in object order, from zone 1 on.
+    ∷ row (after mapD (call.place 5 (0 ∷ 12 ∷ []))) (withBytes ((0, 0x26) ∷ (1, 0x04) ∷ (2, 0x82) ∷ (64, 0x05) ∷ (65, 0x08) ∷ []) mapD)
+    ∷ row (after mapD (call.place 168 (1548 ∷ 12 ∷ 0 ∷ 12 ∷ []))) mapE
+    ∷ row (release mapE 168 lent) (0 ∷ 0 ∷ 2 ∷ 1548 ∷ 12 ∷ 0 ∷ 12 ∷ [])
+    ∷ row (after mapE (call.release 168 4)) mapD
+    ∷ row (place mapD 168 (0 ∷ 12 ∷ 1548 ∷ 12 ∷ [])) (12 ∷ 0 ∷ [])
+    -- Every call tells the zone of a refused map, and leaves what it was lent.
+    ∷ row (list spoiltD 2 lent) (3 ∷ 1 ∷ 0 ∷ 9 ∷ 9 ∷ 9 ∷ 9 ∷ [])
+    ∷ row (free spoiltD lent) (3 ∷ 1 ∷ 0 ∷ 9 ∷ 9 ∷ 9 ∷ 9 ∷ [])
+    ∷ row (address spoiltD 0x000200 0) (3 ∷ 1 ∷ 0 ∷ [])
+    ∷ row (sweepFree spoiltD 0 7 (1 ∷ [])) (3 ∷ 1 ∷ 0 ∷ 1 ∷ [])
+    -- An object of two pieces: a pair for each, even where they touch; its bytes are joined in that order, and both are swept.
+    ∷ row (after mapA (call.place 5 (12 ∷ 12 ∷ 24 ∷ 12 ∷ []))) twoPieces
+    ∷ row (list twoPieces 5 lent) (0 ∷ 0 ∷ 2 ∷ 12 ∷ 12 ∷ 24 ∷ 12 ∷ [])
+    ∷ row (address twoPieces 0x000500 0) (0 ∷ 0 ∷ 12288 ∷ [])
+    ∷ row (address twoPieces 0x000500 12288) (0 ∷ 0 ∷ 24576 ∷ [])
+    ∷ row (sweepObject twoPieces 5 24574 7 (1 ∷ 1 ∷ 1 ∷ 1 ∷ [])) (0 ∷ 0 ∷ 4 ∷ 7 ∷ 7 ∷ 7 ∷ 7 ∷ [])
+    -- Start zones: of object 2 the middle one, of any other id div P; no zone for 0 and for P*nzones.
+    ∷ row (start (geometryFrom eightZones) 2) (0 ∷ 0 ∷ 4 ∷ [])
+    ∷ row (start (geometryFrom eightZones) 167) (0 ∷ 0 ∷ 0 ∷ [])
+    ∷ row (start (geometryFrom eightZones) 168) (0 ∷ 0 ∷ 1 ∷ [])
+    ∷ row (start (geometryFrom eightZones) 1343) (0 ∷ 0 ∷ 7 ∷ [])
+    ∷ row (start (geometryFrom eightZones) 0) (8 ∷ 0 ∷ 0 ∷ [])
+    ∷ row (start (geometryFrom eightZones) 1344) (8 ∷ 0 ∷ 0 ∷ [])
+    -- Records at the ends of their ranges: the floppy's; disc_size in whole sectors; idlen 15 and 16; 127 and 128 zones; a zone with
+    -- room for m bits in zone 0, and with one bit less; as many ids as their bits can name, and more.
+    ∷ row (record-read floppyBytes) (0 ∷ 0 ∷ [])
+    ∷ row (sizes (geometryOf floppyBytes)) (6880 ∷ 16 ∷ 430 ∷ 819200 ∷ [])
+    ∷ row (recordA ((20, 0x01) ∷ [])) (2 ∷ 0 ∷ [])
+    ∷ row (recordA ((8, 0x0F) ∷ [])) (0 ∷ 0 ∷ [])
+    ∷ row (recordA ((8, 0x10) ∷ [])) (2 ∷ 0 ∷ [])
+    ∷ row (recordA ((8, 0x0F) ∷ (13, 0x7F) ∷ [])) (0 ∷ 0 ∷ [])
+    ∷ row (recordA ((8, 0x0F) ∷ (13, 0x80) ∷ [])) (2 ∷ 0 ∷ [])
+    ∷ row (recordA ((9, 0x0C) ∷ [])) (0 ∷ 0 ∷ [])
+    ∷ row (recordA ((14, 0x14) ∷ (15, 0x06) ∷ (21, 0x30) ∷ (22, 0x00) ∷ [])) (0 ∷ 0 ∷ [])
+    ∷ row (recordA ((14, 0x15) ∷ (15, 0x06) ∷ (21, 0x2C) ∷ (22, 0x00) ∷ [])) (2 ∷ 0 ∷ [])
+    ∷ row (recordA ((13, 0x10) ∷ (14, 0x00) ∷ (15, 0x02) ∷ [])) (0 ∷ 0 ∷ [])
+    ∷ row (recordA ((13, 0x11) ∷ (14, 0x00) ∷ (15, 0x02) ∷ [])) (2 ∷ 0 ∷ [])
+    -- A map that is a byte too long; object 3 where A's middle zone has to begin with 2.
+    ∷ row (check (mapA ++ 0 ∷ [])) (1 ∷ 0 ∷ [])
+    ∷ row (check (withBytes ((0, 0xC4) ∷ (64, 0x03) ∷ []) mapA)) (7 ∷ 0 ∷ [])
+    -- A list is read to its end. No size wraps. A cluster of 4,096 bytes.
+    ∷ row (place mapA 5 (12 ∷ 12 ∷ 0 ∷ 0 ∷ [])) (12 ∷ 0 ∷ [])
+    ∷ row (claim mapA 4294967297) (15 ∷ 0 ∷ 0 ∷ 0 ∷ 0 ∷ [])
+    ∷ row (bitsFor (geometryOf (withBytes ((9, 0x0C) ∷ []) mapA)) 61441) (16 ∷ [])
+    -- Three, four and seven zones.
+    ∷ row (change (true ∷ true ∷ true ∷ [])) (1 ∷ 2 ∷ 3 ∷ [])
+    ∷ row (change (true ∷ true ∷ true ∷ true ∷ [])) (1 ∷ 1 ∷ 1 ∷ 1 ∷ [])
+    ∷ row (change (true ∷ true ∷ true ∷ true ∷ true ∷ true ∷ true ∷ [])) (1 ∷ 2 ∷ 3 ∷ 1 ∷ 1 ∷ 1 ∷ 1 ∷ [])
     -- Refusals that the rows above leave out: 0 bytes, an id already there, too few entries, a list out of object order.
     ∷ row (claim mapB 0) (12 ∷ 0 ∷ 0 ∷ 0 ∷ 0 ∷ [])
     ∷ row (place mapB 5 (32 ∷ 12 ∷ [])) (11 ∷ 0 ∷ [])

@@ -1,9 +1,11 @@
 // Document 01's bench examples: one table of questions and answers (specs/Table), and one statement over it. And what the examples
-// shut out: programs that refuse always, answer always the same or write nothing, and sweeps that write everywhere (specs/Empty).
+// shut out: programs that refuse always, answer always the same or write nothing, and sweeps that write everywhere (specs/Empty). And
+// what the calls' promises come to in the table's numbers (specs/Tells).
 ghost use mathlib.Core.Path.{_≡_};
 ghost use mathlib.Core.List.{map};
 ghost use Rattle.bench.specs.Table.{table, answered, expected};
 ghost use Rattle.bench.specs.Empty.{EmptyPrograms};
+ghost use Rattle.bench.specs.Tells.{AnswersTold};
 
 // Every row of the table is answered as document 01 has it, as a contract: the function does nothing.
 pub fn bench_examples()
@@ -13,4 +15,9 @@ pub fn bench_examples()
 // No empty program meets the contracts, as a contract: the function does nothing.
 pub fn empty_programs()
     ensures { λ _. ⌜ EmptyPrograms ⌝ }
+{}
+
+// What each call tells and leaves, as a contract: the function does nothing.
+pub fn answers_told()
+    ensures { λ _. ⌜ AnswersTold ⌝ }
 {}

@@ -3,12 +3,12 @@
 use mathlib.Core.Path.{_≡_, refl, sym, ap, _∙_}
 use mathlib.Core.Bool.{Bool, true, false, cond}
 use mathlib.Core.List.{List, [], _∷_}
-use Prim.Native.Nat.{ℕ, zero, suc, _+_, _%_, _≤_}
+use Prim.Native.Nat.{ℕ, zero, suc, _+_, _%_, _<_, _≤_}
 use native.Mathlib.Omega.{arith}
 use lib.Dec.{eqb, leb}
-use lib.ListN.{length}
+use lib.ListN.{length, getD, take}
 use lib.Bits.{bitXor, xor-zero-l, xor-zero-r}
-use borrow.Author.Tests.{eqb-true, eqb-false, le-ltb, leb-true, leb-false, le-leb, lt-leb}
+use borrow.Author.Tests.{eqb-true, eqb-false, eq-eqb, ne-eqb, lt-ltb, le-ltb, leb-true, leb-false, le-leb, lt-leb}
 use Rattle.bits.proofs.Tests.{by-test}
 use Rattle.bits.proofs.Xor.{xor-medial}
 use Rattle.checks.specs.Cross.{xorSum, amount, touchedCount, changesFrom, changes, xorEach}
@@ -80,3 +80,29 @@ sum-kept cs touched h =
     sum-each cs (changes touched) (omega (arith, length-changes (touchedCount touched) 0 touched))
     ∙ ap (bitXor (xorSum cs)) (changes-cancel touched)
     ∙ xor-zero-r (xorSum cs)
+
+-- the amounts, by how many zones are touched
+pub even-number : (n i : ℕ) → 0 < n → n % 2 ≡ 0 → amount n i ≡ 1
+even-number n i h e = simp (lt-leb n 1 (omega arith), eq-eqb (n % 2) 0 e)
+
+pub first-of-odd : (n i : ℕ) → 1 < n → n % 2 ≡ 1 → i < 3 → amount n i ≡ suc i
+first-of-odd n i h e k = simp (lt-leb n 1 h, ne-eqb (n % 2) 0 (λ z. omega arith), lt-ltb i 3 k)
+
+pub rest-of-odd : (n i : ℕ) → 1 < n → n % 2 ≡ 1 → 3 ≤ i → amount n i ≡ 1
+rest-of-odd n i h e k = simp (lt-leb n 1 h, ne-eqb (n % 2) 0 (λ z. omega arith), le-ltb i 3 k)
+
+-- a zone's change
+pub changes-from : (n i : ℕ) (zs : List Bool) (z : ℕ) → getD (changesFrom n i zs) z 0 ≡ cond (getD zs z false) (amount n (i + touchedCount (take z zs))) 0
+changes-from n i [] z = refl
+changes-from n i (true ∷ zs) zero = let e : i ≡ i + 0 = omega arith in ap (amount n) e
+changes-from n i (false ∷ zs) zero = refl
+changes-from n i (true ∷ zs) (suc z) =
+    let e : suc i + touchedCount (take z zs) ≡ i + suc (touchedCount (take z zs)) = omega arith in
+    changes-from n (suc i) zs z ∙ ap (λ (x : ℕ). cond (getD zs z false) (amount n x) 0) e
+changes-from n i (false ∷ zs) (suc z) = changes-from n i zs z
+
+pub change-by-place : (touched : List Bool) (z : ℕ)
+    → getD (changes touched) z 0 ≡ cond (getD touched z false) (amount (touchedCount touched) (touchedCount (take z touched))) 0
+change-by-place zs z =
+    let e : 0 + touchedCount (take z zs) ≡ touchedCount (take z zs) = omega arith in
+    changes-from (touchedCount zs) 0 zs z ∙ ap (λ (x : ℕ). cond (getD zs z false) (amount (touchedCount zs) x) 0) e

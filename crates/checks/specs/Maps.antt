@@ -22,3 +22,15 @@ mapA =
 -- "Map B is A with object 5 placed at (12,20): then 0=28, 1=18, 65=58, 67=80."
 abbrev pub mapB : List ℕ
 mapB = withBytes ((0, 0x28) ∷ (1, 0x18) ∷ (65, 0x58) ∷ (67, 0x80) ∷ []) mapA
+
+-- Map D, ours: A's record with two zones and disc_size 3,637,248; zone 0 free, in zone 1 object 2 at (1536,12) and the rest free. Zone 0's
+-- header, the disc record, zone 0's allocation bits; zone 1's header, its allocation bits.
+abbrev pub mapD : List ℕ
+mapD =
+    withBytes
+    ((0, 0x31) ∷ (1, 0xF8) ∷ (2, 0x81) ∷ (3, 0xFF)
+    ∷ (4, 0x08) ∷ (8, 0x0B) ∷ (9, 0x0A) ∷ (13, 0x02) ∷ (14, 0x20) ∷ (21, 0x80) ∷ (22, 0x37)
+    ∷ (255, 0x80)
+    ∷ (256, 0x2E) ∷ (257, 0x24) ∷ (258, 0x80)
+    ∷ (260, 0x02) ∷ (261, 0x08) ∷ (511, 0x80) ∷ [])
+    (replicate 512 0)

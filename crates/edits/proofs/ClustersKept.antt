@@ -56,7 +56,7 @@ holes-whole k at end (p ∷ ps) h a e w i =
     hole-whole k at (p .at .start) h (holes (p .at .start + p .at .len) end ps) a s
     (λ j. holes-whole k (p .at .start + p .at .len) end ps h (add-whole k (p .at .start) (p .at .len) s (len-whole k p (w .0))) e (w .1) j) i
 
-max-whole : (k a b : ℕ) → a % k ≡ 0 → b % k ≡ 0 → max a b % k ≡ 0
+pub max-whole : (k a b : ℕ) → a % k ≡ 0 → b % k ≡ 0 → max a b % k ≡ 0
 max-whole k a b h j =
     by-test (leb a b)
     (λ t. let e : max a b ≡ b = omega (arith, leb-true) in ap (λ (x : ℕ). x % k) e ∙ j)

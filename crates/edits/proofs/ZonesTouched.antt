@@ -3,20 +3,23 @@
 use mathlib.Core.Path.{_≡_, refl, sym, ap, ap₂, _∙_}
 use mathlib.Core.Bool.{Bool, true, false, cond, not, true≢false}
 use mathlib.Core.List.{List, [], _∷_, map}
+use mathlib.Core.Logic.{inl, inr}
 use Prim.Native.Nat.{ℕ, zero, suc, _+_, _<_, _≤_}
 use native.Mathlib.Nat.{zero-add}
 use native.Mathlib.Omega.{arith}
 use lib.Dec.{eqb, ltb}
 use lib.Bits.{bitXor, xor-zero-r}
 use lib.ListN.{length, getD, take, length-append}
-use borrow.Author.Tests.{lt-ltb, ltb-false}
-use Rattle.bits.proofs.Tests.{by-test}
-use Rattle.checks.specs.Cross.{amount, touchedCount, changesFrom, changes, xorEach}
+use borrow.Author.Tests.{lt-ltb, ltb-false, eqb-true, eq-eqb}
+use Rattle.bits.proofs.Tests.{by-test, or-left, or-right}
+use Rattle.checks.specs.Cross.{amount, touchedCount, changes, xorEach}
+use Rattle.checks.proofs.Changes.{changes-from}
 use Rattle.geometry.specs.declared.Geometry.{Geometry}
 use Rattle.geometry.specs.Places.{zoneOf}
 use Rattle.model.specs.Chain.{Pair}
 use Rattle.model.specs.Pieces.{Piece, keep, isOf, piecesOf, late, rotate, objectPairs}
 use Rattle.model.proofs.Lists.{keep-append}
+use Rattle.edits.specs.Editable.{TouchedBy}
 use Rattle.edits.specs.Edits.{Disc, notOf, without, put, own, give, touches, touchedFrom, touchedZones, crossed, Edit, takes, gives, pairsIn, edit, inZone}
 use Rattle.edits.proofs.Kept.{All, keep-comm, length-parts}
 use Rattle.edits.proofs.ByPlace.{Weak, keep-put-by-place}
@@ -94,20 +97,31 @@ touched-below g qs z n zero h = refl
 touched-below g qs z zero (suc i) h = absurd (omega arith)
 touched-below g qs z (suc n) (suc i) h = ap (λ (r : List Bool). touches g z qs ∷ r) (touched-below g qs (suc z) n i (omega arith))
 
-pub change-at : (n i : ℕ) (zs : List Bool) (z : ℕ) → getD (changesFrom n i zs) z 0 ≡ cond (getD zs z false) (amount n (i + touchedCount (take z zs))) 0
-change-at n i [] z = refl
-change-at n i (true ∷ zs) zero = let e : i ≡ i + 0 = omega arith in ap (amount n) e
-change-at n i (false ∷ zs) zero = refl
-change-at n i (true ∷ zs) (suc z) =
-    let e : suc i + touchedCount (take z zs) ≡ i + suc (touchedCount (take z zs)) = omega arith in
-    change-at n (suc i) zs z ∙ ap (λ (j : ℕ). cond (getD zs z false) (amount n j) 0) e
-change-at n i (false ∷ zs) (suc z) = change-at n i zs z
-
-each-at : (cs vs : List ℕ) (z : ℕ) → z < length cs → getD (xorEach cs vs) z 0 ≡ bitXor (getD cs z 0) (getD vs z 0)
+pub each-at : (cs vs : List ℕ) (z : ℕ) → z < length cs → getD (xorEach cs vs) z 0 ≡ bitXor (getD cs z 0) (getD vs z 0)
 each-at [] vs z h = absurd (omega arith)
 each-at (c ∷ cs) [] z h = sym (xor-zero-r (getD (c ∷ cs) z 0))
 each-at (c ∷ cs) (v ∷ vs) zero h = refl
 each-at (c ∷ cs) (v ∷ vs) (suc z) h = each-at cs vs z (omega arith)
+
+-- the list of the touched zones: of all zones, and true exactly where a pair lies
+pub touched-length : (g : Geometry) (qs : List Pair) (z n : ℕ) → length (touchedFrom g qs z n) ≡ n
+touched-length g qs z zero = refl
+touched-length g qs z (suc n) = ap suc (touched-length g qs (suc z) n)
+
+pub touches-told : (g : Geometry) (z : ℕ) (qs : List Pair) → touches g z qs ≡ true → TouchedBy g qs z
+touches-told g z [] e = absurd (true≢false (sym e))
+touches-told g z (q ∷ qs) e =
+    by-test (eqb (zoneOf g (q .start)) z)
+    (λ t. (q, inl refl, eqb-true (zoneOf g (q .start)) z t))
+    (λ t. let r = touches-told g z qs (rw t at e) in (r .0, inr (r .1), r .2))
+
+pub told-touches : (g : Geometry) (z : ℕ) (qs : List Pair) → TouchedBy g qs z → touches g z qs ≡ true
+told-touches g z [] (q, i, e) = absurd i
+told-touches g z (x ∷ qs) (q, inl i, e) = or-left (eqb (zoneOf g (x .start)) z) (touches g z qs) (eq-eqb (zoneOf g (x .start)) z (ap (λ (y : Pair). zoneOf g (y .start)) (sym i) ∙ e))
+told-touches g z (x ∷ qs) (q, inr i, e) = or-right (eqb (zoneOf g (x .start)) z) (touches g z qs) (told-touches g z qs (q, i, e))
+
+pub not-touched : (g : Geometry) (z : ℕ) (qs : List Pair) → (TouchedBy g qs z → ⊥) → touches g z qs ≡ false
+not-touched g z qs n = by-test (touches g z qs) (λ t. absurd (n (touches-told g z qs t))) (λ t. t)
 
 -- what a zone's cross check is exclusive-ored with: the i-th touched zone is the one with i touched zones below it
 abbrev pub changeAt : Geometry → List Pair → ℕ → ℕ
@@ -121,7 +135,7 @@ crossed-at g qs cs z e h =
     zero-add _ ∙ ap touchedCount (touched-below g qs 0 (g .zones) z (omega arith)) in
     let b : getD (touchedZones g qs) z false ≡ touches g z qs = touched-at g qs 0 (g .zones) z h ∙ ap (λ (j : ℕ). touches g j qs) (zero-add z) in
     each-at cs (changes (touchedZones g qs)) z (omega arith)
-    ∙ ap (bitXor (getD cs z 0)) (change-at n 0 (touchedZones g qs) z ∙ ap₂ (λ (b : Bool) (j : ℕ). cond b (amount n j) 0) b i)
+    ∙ ap (bitXor (getD cs z 0)) (changes-from n 0 (touchedZones g qs) z ∙ ap₂ (λ (b : Bool) (j : ℕ). cond b (amount n j) 0) b i)
 
 pub untouched-cross : (g : Geometry) (z : ℕ) (s : Disc) (e : Edit) → length (s .cross) ≡ g .zones → z < g .zones → touches g z (pairsIn e) ≡ false → getD ((edit g e s) .cross) z 0 ≡ getD (s .cross) z 0
 untouched-cross g z s e n h t =

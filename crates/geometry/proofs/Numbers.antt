@@ -8,7 +8,7 @@ use native.Mathlib.Nat.{mul-mod-left, div-add-mod', mod-lt, div-le-self, le-div-
 use native.Mathlib.Omega.{arith}
 use lib.Dec.{eqb, leb}
 use lib.Pow.{pow-mono, pow-add, pow-pos}
-use borrow.Author.Tests.{leb-true, eqb-true}
+use borrow.Author.Tests.{leb-true, eqb-true, lt-ltb, le-ltb}
 use Rattle.bits.proofs.Tests.{both}
 use Rattle.bits.proofs.Below.{below, at}
 use Rattle.geometry.specs.declared.DiscRecord.{DiscRecord}
@@ -168,3 +168,10 @@ floppy = (refl, refl, refl, refl)
 
 pub divisor : let g = geometryFrom (floppyDisc 13) in (g .bits ≡ 6880) × (g .shortest ≡ 16) × (g .ids ≡ 491)
 divisor = (refl, refl, refl)
+
+-- clusters
+pub cluster-parts : (S B : ℕ) → 0 < B → B < S → S % B ≡ 0 → clusterOf S B * B ≡ S
+cluster-parts S B p h e = simp (lt-ltb B S h) (omega (arith, div-add-mod' S B))
+
+pub cluster-else : (S B : ℕ) → S ≤ B → clusterOf S B ≡ 1
+cluster-else S B h = simp (le-ltb B S h)

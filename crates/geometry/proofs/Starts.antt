@@ -2,10 +2,10 @@
 -- zone alike.
 use mathlib.Core.Path.{_≡_, refl, sym, ap, _∙_}
 use Prim.Native.Nat.{ℕ, zero, suc, _*_, _/_, _<_, _≤_}
-use native.Mathlib.Nat.{zero-mul, mul-zero, mul-comm, div-lt-iff-lt-mul, le-div-iff-mul-le, not-suc-le-zero, zero-lt-suc}
+use native.Mathlib.Nat.{zero-mul, mul-zero, mul-comm, div-mul-le-self, div-lt-iff-lt-mul, le-div-iff-mul-le, not-suc-le-zero, zero-lt-suc}
 use native.Mathlib.Omega.{arith}
 use lib.Dec.{eqb, ltb}
-use borrow.Author.Tests.{lt-ltb, le-ltb, ltb-true, ltb-false}
+use borrow.Author.Tests.{lt-ltb, le-ltb, ltb-true, ltb-false, ne-eqb}
 use Rattle.bits.proofs.Tests.{by-test, and-with-false}
 use Rattle.geometry.specs.declared.Geometry.{Geometry}
 use Rattle.geometry.specs.declared.Start.{Start}
@@ -23,6 +23,9 @@ factors (suc p) zero n h = absurd (not-suc-le-zero (rw mul-zero at h))
 factors (suc p) (suc q) n h = (zero-lt-suc p, zero-lt-suc q)
 
 module _ (g : Geometry) (id : ℕ) where
+  pub start-by-ids : 0 < g .ids → (id ≡ 2 → ⊥) → (startZone g id * g .ids ≤ id) × (id < suc (startZone g id) * g .ids)
+  start-by-ids p n = rw (ne-eqb id 2 n) (div-mul-le-self id (g .ids), div-lt-iff-lt-mul p .0 (omega arith))
+
   pub start-in-range : 1 ≤ id → id < g .ids * g .zones → startZone g id < g .zones
   start-in-range l h =
       let f = factors (g .ids) (g .zones) id h in

@@ -2,9 +2,9 @@
 use mathlib.Core.Path.{_≡_}
 use mathlib.Core.Bool.{true}
 use mathlib.Core.List.{List}
-use Prim.Native.Nat.{ℕ, _*_, _<_, _≤_}
+use Prim.Native.Nat.{ℕ, suc, _*_, _/_, _%_, _<_, _≤_}
 use Rattle.geometry.specs.declared.Geometry.{Geometry}
-use Rattle.geometry.specs.Record.{geometryIn, geometryFrom, floppyDisc, eightZones}
+use Rattle.geometry.specs.Record.{clusterOf, geometryIn, geometryFrom, floppyDisc, eightZones}
 use Rattle.geometry.specs.Ranges.{RecordRules, recordFits}
 use Rattle.geometry.specs.Accepted.{AcceptedGeometry}
 use Rattle.geometry.specs.Places.{firstBit, endBit, discBit, blockBit, zoneOf, zoneFrom, zoneEnd, discBits, startZone}
@@ -23,6 +23,12 @@ pub record GeometryLaws : Type 0 where
   -- a zone's disc bits run from that of its first allocation bit to that of its end
   pub zone-starts : (g : Geometry) (z : ℕ) → zoneFrom g z ≡ discBit g z (firstBit z)
   pub zone-ends : (g : Geometry) (z : ℕ) → zoneEnd g z ≡ discBit g z (endBit g)
+  -- "k, the map bits of a cluster, is S/B where B is less than S, else 1"
+  pub cluster-parts : (S B : ℕ) → 0 < B → B < S → S % B ≡ 0 → clusterOf S B * B ≡ S
+  pub cluster-else : (S B : ℕ) → S ≤ B → clusterOf S B ≡ 1
+  -- "the start zone is id div P (for object 2, nzones div 2)"
+  pub start-by-ids : (g : Geometry) (id : ℕ) → 0 < g .ids → (id ≡ 2 → ⊥) → (startZone g id * g .ids ≤ id) × (id < suc (startZone g id) * g .ids)
+  pub start-of-2 : (g : Geometry) → startZone g 2 ≡ g .zones / 2
   -- an id's start zone is a zone
   pub start-in-range : (g : Geometry) (id : ℕ) → 1 ≤ id → id < g .ids * g .zones → startZone g id < g .zones
   -- document 01's last bench line: Z 6880, m 16, P 430, 819,200 bytes

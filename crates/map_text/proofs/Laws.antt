@@ -75,6 +75,8 @@ text-laws = record {
   all-printed = λ m left text b p. left-printed p ∙ b .all;
   of-A = refl;
   of-B = refl;
+  of-D = refl;
+  of-spoilt-D = refl;
   of-none = refl;
   of-zeros = refl;
 }

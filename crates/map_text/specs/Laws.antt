@@ -3,7 +3,7 @@ use mathlib.Core.Path.{_≡_}
 use mathlib.Core.List.{List, [], _∷_, _++_}
 use Prim.Native.Nat.{ℕ, _+_, _-_, _*_, _<_, _≤_}
 use lib.ListN.{length, getD, take, replicate}
-use Rattle.checks.specs.Maps.{mapA, mapB}
+use Rattle.checks.specs.Maps.{withBytes, mapA, mapB, mapD}
 use Rattle.map_text.specs.declared.Left.{Left}
 use Rattle.map_text.specs.declared.TextPart.{TextPart}
 use Rattle.map_text.specs.Ascii.{ascii}
@@ -41,5 +41,7 @@ pub record TextLaws : Type 0 where
   -- "Map A gives exactly two lines, `2 0 12` and `free 12 1524`"
   pub of-A : programText mapA ≡ ascii "2 0 12\nfree 12 1524\n"
   pub of-B : programText mapB ≡ ascii "2 0 12\n5 12 20\nfree 32 1504\n"
+  pub of-D : programText mapD ≡ ascii "free 0 1536\n2 1536 12\nfree 1548 2004\n"
+  pub of-spoilt-D : programText (withBytes ((256, 0x2F) ∷ []) mapD) ≡ ascii "refused 3 1\n"
   pub of-none : programText [] ≡ ascii "refused 1 0\n"
   pub of-zeros : programText (replicate 64 0) ≡ ascii "refused 2 0\n"

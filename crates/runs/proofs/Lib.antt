@@ -12,6 +12,7 @@ pub mod ClaimsJudged
 pub mod MapRefused
 pub mod MapsEdited
 pub mod NeverFourteen
+pub mod NeedRules
 pub mod Touches
 pub mod RoomForList
 pub mod OneClaim

@@ -1,23 +1,27 @@
 -- Demand 2's and demand 3's statements on single steps: what an accepted call leaves, that a release with room is accepted, and that an
 -- undo at once is accepted and restores every byte. Each goes from the bytes to the verdict on their pieces and back.
 use mathlib.Core.Path.{_≡_, sym, ap, ap₂, _∙_, subst⁻¹}
-use mathlib.Core.Bool.{true, not, false≢true}
+use mathlib.Core.Bool.{true, false, not, false≢true}
 use mathlib.Core.List.{List, [], _∷_}
 use mathlib.Core.Option.{none}
-use Prim.Native.Nat.{ℕ, _*_, _≤_}
-use lib.ListN.{length}
+use Prim.Native.Nat.{ℕ, _*_, _<_, _≤_}
+use native.Mathlib.Nat.{zero-add}
+use native.Mathlib.Omega.{arith}
+use lib.Bits.{bitXor}
+use lib.ListN.{length, getD}
+use Rattle.checks.specs.Cross.{crossOf, changes}
 use Rattle.geometry.specs.declared.Geometry.{Geometry}
 use Rattle.geometry.specs.Record.{geometryOf}
 use Rattle.geometry.specs.Accepted.{AcceptedGeometry}
 use Rattle.model.specs.Chain.{Pair, Entry, numbersOf}
 use Rattle.model.specs.Pieces.{Piece, piecesOfZones, objectPairs}
-use Rattle.edits.specs.Edits.{Disc, without, Edit, takes, gives, edit, editId}
+use Rattle.edits.specs.Edits.{Disc, without, Edit, takes, gives, edit, editId, pairsIn, touches, touchedZones}
 use Rattle.model.specs.Answer.{Answer, refused, answered}
 use Rattle.edits.specs.Judge.{Call, release, place, claim, isEmpty, editable, judge}
 use Rattle.edits.specs.Runs.{Undone, nothing, strike, released, restored}
 use Rattle.edits.proofs.PieceRuns.{obey, edits}
 use Rattle.edits.proofs.PieceRuns as onPieces
-use Rattle.edits.proofs.RunsKept.{release-tests, allowed}
+use Rattle.edits.proofs.RunsKept.{release-tests, allowed, cross-edit}
 use Rattle.edits.proofs.ReadsAfter.{ListedAfter, listed-after}
 use Rattle.edits.proofs.Returned.{place-back, release-listed, release-back}
 use Rattle.edits.specs.Steps.{discOf, outcome, bytesAfter, step, steps}
@@ -28,7 +32,8 @@ use Rattle.edits.proofs.PiecesKept.{AcceptedPieces}
 use Rattle.edits.proofs.StepWritten.{outcome-judged}
 use Rattle.edits.proofs.MapAccepted.{map-geometry, map-disc}
 use Rattle.edits.proofs.RunsOnBytes.{ReadsAs, reads-listed, reads-editable, undone-bytes, step-accepted, bytes-kept}
-use Rattle.edits.proofs.ZonesAfter.{zone-untouched}
+use Rattle.edits.proofs.ZonesAfter.{zone-cross-at, zone-edited, zone-untouched}
+use Rattle.edits.proofs.ZonesTouched.{touched-at, each-at, touched-length, touches-told, told-touches, not-touched}
 use Rattle.runs.proofs.BitsKept.{outside-kept}
 use Rattle.runs.proofs.FreeBits.{free-after}
 use Rattle.runs.proofs.EditsOf.{judged-done}
@@ -89,10 +94,23 @@ module _ (m : List ℕ) (ed : Editable m) where
         others = λ id n. l id ∙ rest e w id n;
         free-bits = free-after m (step m c) ed again (r .4) e fits
             (ap (λ (x : List (List Entry)). piecesOfZones (geometryOf (step m c)) 0 x) (ap zonesIn (r .1)) ∙ ap (λ (x : Disc). x .pieces) (r .3));
-        untouched = λ z k t. zone-untouched m (zonesOf m) (ed .bytes) (ed .accepted) (ed .apart) c e h z k t;
+        untouched = λ z k t. zone-untouched m (zonesOf m) (ed .bytes) (ed .accepted) (ed .apart) c e h z k (not-touched g z (pairsIn e) t);
+        all-zones = touched-length g (pairsIn e) 0 (g .zones);
+        touched = λ z k. (
+          λ t. touches-told g z (pairsIn e) (sym (touched-here e z k) ∙ t),
+          λ t. touched-here e z k ∙ told-touches g z (pairsIn e) t,
+        );
+        cross = λ z k.
+            ap crossOf (zone-edited m (zonesOf m) (ed .bytes) (ed .accepted) (ed .apart) c e h z k)
+            ∙ ap (λ (cs : List ℕ). getD cs z 0) (cross-edit g e s)
+            ∙ each-at (s .cross) (changes (touchedZones g (pairsIn e))) z (omega (arith, map-disc m (zonesOf m) (ed .bytes) (ed .accepted) .count))
+            ∙ ap (λ (x : ℕ). bitXor x (getD (changes (touchedZones g (pairsIn e))) z 0)) (zone-cross-at m (zonesOf m) (ed .bytes) (ed .accepted) (ed .apart) z k);
         outside = outside-kept m (zonesOf m) (ed .bytes) (ed .accepted) (ed .apart) (c ∷ []);
       }
     where
+      touched-here : (e : Edit) (z : ℕ) → z < (geometryOf m) .zones → getD (touchedZones (geometryOf m) (pairsIn e)) z false ≡ touches (geometryOf m) z (pairsIn e)
+      touched-here e z k = touched-at (geometryOf m) (pairsIn e) 0 ((geometryOf m) .zones) z k ∙ ap (λ (j : ℕ). touches (geometryOf m) j (pairsIn e)) (zero-add z)
+
       named : (e : Edit) → ListedAfter (geometryOf m) (s .pieces) e ((edit (geometryOf m) e s) .pieces)
           → ((id : ℕ) → listedOn (step m c) id ≡ objectPairs (geometryOf m) id ((edit (geometryOf m) e s) .pieces)) → NamedMoved m e (step m c)
       named (takes id qs) w l = (w .0, l id ∙ w .1)

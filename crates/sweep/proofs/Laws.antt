@@ -1,8 +1,9 @@
 -- The laws of specs/Laws. Those of a map that was read hold since its reading is that of an accepted map.
 use mathlib.Core.Path.{_≡_, sym}
-use mathlib.Core.Bool.{true, false}
+use mathlib.Core.Bool.{true, false, cond}
 use mathlib.Core.List.{List}
 use Prim.Native.Nat.{ℕ}
+use native.Mathlib.Nat.{add-zero}
 use Rattle.geometry.specs.declared.Geometry.{Geometry}
 use Rattle.geometry.specs.Record.{geometryOf}
 use Rattle.model.specs.Chain.{Entry}
@@ -46,6 +47,7 @@ sweep-laws = record {
   free-not-reached = free-not-reached;
   swept-byte = swept-byte;
   swept-length = swept-length;
+  one-count = λ unit qs a. add-zero (cond (covers unit qs a) 1 0);
   cut-bytes = cut-bytes;
   cut-count = cut-count;
 }

@@ -41,6 +41,8 @@ pub record SweepLaws : Type 0 where
   pub swept-byte : (unit : ℕ) (qs : List Pair) (fill a : ℕ) (image : List ℕ) (i : ℕ) → i < length image
       → getD (sweptBytes unit qs fill a image) i 0 ≡ cond (covers unit qs (a + i)) fill (getD image i 0)
   pub swept-length : (unit : ℕ) (qs : List Pair) (fill a : ℕ) (image : List ℕ) → length (sweptBytes unit qs fill a image) ≡ length image
+  -- "and answers how many those are": an address of the class counts 1, any other 0, and a stretch counts as its addresses do
+  pub one-count : (unit : ℕ) (qs : List Pair) (a : ℕ) → coveredCount unit qs a 1 ≡ cond (covers unit qs a) 1 0
   -- a stretch cut in two: the bytes are the same and the counts add up
   pub cut-bytes : (unit : ℕ) (qs : List Pair) (fill a : ℕ) (x y : List ℕ)
       → sweptBytes unit qs fill a (x ++ y) ≡ sweptBytes unit qs fill a x ++ sweptBytes unit qs fill (a + length x) y

@@ -1,8 +1,9 @@
 -- The laws, each from the file that proves it.
+use mathlib.Core.Path.{refl}
 use Rattle.geometry.proofs.Rules.{test-is-rules}
-use Rattle.geometry.proofs.Numbers.{accepted, floppy, divisor}
+use Rattle.geometry.proofs.Numbers.{accepted, cluster-parts, cluster-else, floppy, divisor}
 use Rattle.geometry.proofs.DiscBits.{block-of-disc, disc-of-block, zone-of-disc, on-the-map, zone-starts, zone-ends}
-use Rattle.geometry.proofs.Starts.{start-in-range, object-690}
+use Rattle.geometry.proofs.Starts.{start-by-ids, start-in-range, object-690}
 use Rattle.geometry.proofs.geometry_laws.Statement.{statement}
 use Rattle.geometry.proofs.geometry_laws.Tie as tie
 
@@ -17,6 +18,10 @@ returns c =
       on-the-map = on-the-map;
       zone-starts = zone-starts;
       zone-ends = zone-ends;
+      cluster-parts = cluster-parts;
+      cluster-else = cluster-else;
+      start-by-ids = start-by-ids;
+      start-of-2 = λ g. refl;
       start-in-range = start-in-range;
       floppy = floppy;
       divisor = divisor;

@@ -1,0 +1,78 @@
+-- Each promise says which definition its numbers and its bytes equal; a refusal or a value found decides what that comes to.
+use mathlib.Core.Path.{_≡_, ap, _∙_}
+use mathlib.Core.List.{List}
+use Prim.Native.Nat.{ℕ, _*_}
+use lib.ListN.{length, take, drop}
+use lib.Seq.{take-at}
+use Rattle.model.specs.Answer.{Answer, answered}
+use Rattle.model.specs.Chain.{Pair, numbersOf}
+use Rattle.model.proofs.Lists.{length-numbers}
+use Rattle.map.specs.Checked.{checkTold}
+use Rattle.listing.specs.Listed.{Lists, listTold, listAfter}
+use Rattle.listing.specs.declared.Listed.{Listed}
+use Rattle.address.specs.Address.{addressTold}
+use Rattle.sweep.specs.Sweep.{sweepTold, imageAfter}
+use Rattle.edits.specs.Edits.{takes, gives}
+use Rattle.edits.specs.Judge.{release, place}
+use Rattle.edits.specs.Steps.{outcome, bytesAfter, step}
+use Rattle.edits.specs.Editable.{Editable}
+use Rattle.release.specs.Released.{Releases, pairsTaken}
+use Rattle.place.specs.Placed.{Places, placeTold}
+use Rattle.place.specs.declared.Placed.{Placed}
+use Rattle.claim.specs.Claimed.{claimTold}
+use Rattle.runs.proofs.StepLaws.{release-place}
+use Rattle.bench.specs.Tells.{ListTells, ReleaseTells}
+use Rattle.bench.proofs.answers_told.Statement.{statement}
+use Rattle.bench.proofs.answers_told.Tie as tie
+
+listed : (found : Answer (List Pair)) (old : List ℕ) (r : Listed) (new : List ℕ) → Lists found old r new → ListTells found old r new
+listed found old r new p = record {
+  refused-told = λ n z e. (p .numbers ∙ ap listTold e, p .list ∙ ap (listAfter old) e);
+  accepted-told = λ qs e. (p .numbers ∙ ap listTold e, p .list ∙ ap (listAfter old) e);
+}
+
+released : (m : List ℕ) (id : ℕ) (old : List ℕ) (r : Listed) (after new : List ℕ) → Releases m id old r after new → ReleaseTells m id old r after new
+released m id old r after new p =
+    let l = listed (pairsTaken (outcome m (release id (length old)))) old r new (p .lists) in
+    record {
+      refused-told = λ n z e. (let t = l .refused-told n z (ap pairsTaken e) in (t .0, t .1, p .bytes ∙ ap (bytesAfter m) e));
+      accepted-told = λ qs e. l .accepted-told qs (ap pairsTaken e);
+    }
+
+placed-back : (m : List ℕ) → Editable m → (id : ℕ) (old : List ℕ) (r : Listed) (after new : List ℕ) → Releases m id old r after new
+    → (qs : List Pair) → outcome m (release id (length old)) ≡ answered (takes id qs)
+    → (s : Placed) (end : List ℕ) → Places after id (take (2 * length qs) new) s end → ((outcome after (place id (take (2 * length qs) new))) ≡ answered (gives id qs)) × (end ≡ m)
+placed-back m ed id old r after new p qs e s end q =
+    let c = release id (length old) in
+    let list : take (2 * length qs) new ≡ numbersOf qs =
+    ap (take (2 * length qs)) (released m id old r after new p .accepted-told qs e .1) ∙ take-at (numbersOf qs) (drop (2 * length qs) old) (2 * length qs) (length-numbers qs) in
+    let u = release-place m ed id (length old) qs e in
+    let same : (x l : List ℕ) → x ≡ step m c → l ≡ numbersOf qs → (outcome x (place id l) ≡ answered (gives id qs)) × (step x (place id l) ≡ m) =
+    λ x l ex el. ((λ i. outcome (ex i) (place id (el i))) ∙ u .0, (λ i. step (ex i) (place id (el i))) ∙ u .1) in
+    let t = same after (take (2 * length qs) new) (p .bytes) list in
+    (t .0, q .bytes ∙ t .1)
+
+returns : tie.Need-returns
+returns c = record {
+  checks = λ m r p. record { refused-told = λ n z e. p .numbers ∙ ap checkTold e; accepted-told = λ ess e. p .numbers ∙ ap checkTold e };
+  lists = listed;
+  reaches = λ m n position r p. record { refused-told = λ k z e. p .numbers ∙ ap addressTold e; accepted-told = λ a e. p .numbers ∙ ap addressTold e };
+  sweeps = λ found first fill old r new p. record {
+    refused-told = λ n z e. (p .numbers ∙ ap (sweepTold first (length old)) e, p .image ∙ ap (imageAfter first fill old) e);
+    accepted-told = λ k e. (p .numbers ∙ ap (sweepTold first (length old)) e, p .image ∙ ap (imageAfter first fill old) e);
+  };
+  releases = released;
+  places = λ m id list r after p. record {
+    refused-told = λ n z e. (p .numbers ∙ ap placeTold e, p .bytes ∙ ap (bytesAfter m) e);
+    accepted-told = λ k e. p .numbers ∙ ap placeTold e;
+  };
+  claims = λ m size r after p. record {
+    refused-told = λ n z e. (p .numbers ∙ ap claimTold e, p .bytes ∙ ap (bytesAfter m) e);
+    accepted-told = λ id q e. p .numbers ∙ ap claimTold e;
+  };
+  returned-placed = λ m ed id old r after new p qs e s end q.
+      (let t = placed-back m ed id old r after new p qs e s end q in (q .numbers ∙ ap placeTold (t .0), t .1));
+}
+
+pub answers-told-spec : {M : Type 1} → statement M
+answers-told-spec = tie.close (tie.spec returns)

@@ -1,0 +1,76 @@
+-- What each call's promise comes to in the table's numbers, refused and accepted, and what it leaves of what it was lent. It is stated of the
+-- promises themselves, so that nothing between what is found and what is told can say something else. Assumes nothing.
+use mathlib.Core.Path.{_≡_}
+use mathlib.Core.List.{List, [], _∷_, _++_}
+use Prim.Native.Nat.{ℕ, _*_}
+use lib.ListN.{length, take, drop}
+use Rattle.model.specs.Answer.{Answer, refused, answered}
+use Rattle.model.specs.Chain.{Pair, Entry, numbersOf}
+use Rattle.model.specs.Check.{mapRead}
+use Rattle.map.specs.Checked.{Checks, checkNumbers}
+use Rattle.map.specs.declared.Checked.{Checked}
+use Rattle.listing.specs.Listed.{Lists, listNumbers}
+use Rattle.listing.specs.declared.Listed.{Listed}
+use Rattle.address.specs.Address.{Reaches, addressFound, addressNumbers}
+use Rattle.address.specs.declared.Reached.{Reached}
+use Rattle.sweep.specs.Sweep.{Class, Sweeps, sweptBytes, coveredCount, sweepNumbers}
+use Rattle.sweep.specs.declared.Swept.{Swept}
+use Rattle.edits.specs.Edits.{Edit, takes, gives}
+use Rattle.edits.specs.Judge.{release, place, claim}
+use Rattle.edits.specs.Steps.{outcome}
+use Rattle.edits.specs.Editable.{Editable}
+use Rattle.release.specs.Released.{Releases}
+use Rattle.place.specs.Placed.{Places, placeNumbers}
+use Rattle.place.specs.declared.Placed.{Placed}
+use Rattle.claim.specs.Claimed.{Claims, claimNumbers}
+use Rattle.claim.specs.declared.Claimed.{Claimed}
+
+-- check
+pub record CheckTells (m : List ℕ) (r : Checked) : Type 0 where
+  pub refused-told : (n z : ℕ) → mapRead m ≡ refused n z → checkNumbers r ≡ (n, z)
+  pub accepted-told : (ess : List (List Entry)) → mapRead m ≡ answered ess → checkNumbers r ≡ (0, 0)
+
+-- list, free and the list of a release: "Entries past the last pair are untouched"
+pub record ListTells (found : Answer (List Pair)) (old : List ℕ) (r : Listed) (new : List ℕ) : Type 0 where
+  pub refused-told : (n z : ℕ) → found ≡ refused n z → (listNumbers r ≡ (n, z, 0)) × (new ≡ old)
+  pub accepted-told : (qs : List Pair) → found ≡ answered qs → (listNumbers r ≡ (0, 0, length qs)) × (new ≡ numbersOf qs ++ drop (2 * length qs) old)
+
+-- address
+pub record AddressTells (found : Answer ℕ) (r : Reached) : Type 0 where
+  pub refused-told : (n z : ℕ) → found ≡ refused n z → addressNumbers r ≡ (n, z, 0)
+  pub accepted-told : (a : ℕ) → found ≡ answered a → addressNumbers r ≡ (0, 0, a)
+
+-- the sweeps: "answers how many those are"
+pub record SweepTells (found : Answer Class) (first fill : ℕ) (old : List ℕ) (r : Swept) (new : List ℕ) : Type 0 where
+  pub refused-told : (n z : ℕ) → found ≡ refused n z → (sweepNumbers r ≡ (n, z, 0)) × (new ≡ old)
+  pub accepted-told : (c : Class) → found ≡ answered c
+      → (sweepNumbers r ≡ (0, 0, coveredCount (c .unit) (c .pairs) first (length old))) × (new ≡ sweptBytes (c .unit) (c .pairs) fill first old)
+
+-- the edits: what is answered, and a refused one leaves the map
+pub record ReleaseTells (m : List ℕ) (id : ℕ) (old : List ℕ) (r : Listed) (after new : List ℕ) : Type 0 where
+  pub refused-told : (n z : ℕ) → outcome m (release id (length old)) ≡ refused n z → (listNumbers r ≡ (n, z, 0)) × (new ≡ old) × (after ≡ m)
+  pub accepted-told : (qs : List Pair) → outcome m (release id (length old)) ≡ answered (takes id qs)
+      → (listNumbers r ≡ (0, 0, length qs)) × (new ≡ numbersOf qs ++ drop (2 * length qs) old)
+
+pub record PlaceTells (m : List ℕ) (id : ℕ) (list : List ℕ) (r : Placed) (after : List ℕ) : Type 0 where
+  pub refused-told : (n z : ℕ) → outcome m (place id list) ≡ refused n z → (placeNumbers r ≡ (n, z)) × (after ≡ m)
+  pub accepted-told : (e : Edit) → outcome m (place id list) ≡ answered e → placeNumbers r ≡ (0, 0)
+
+pub record ClaimTells (m : List ℕ) (size : ℕ) (r : Claimed) (after : List ℕ) : Type 0 where
+  pub refused-told : (n z : ℕ) → outcome m (claim size) ≡ refused n z → (claimNumbers r ≡ (n, z, 0, 0, 0)) × (after ≡ m)
+  pub accepted-told : (id : ℕ) (q : Pair) → outcome m (claim size) ≡ answered (gives id (q ∷ [])) → claimNumbers r ≡ (0, 0, id, q .start, q .len)
+
+pub record AnswersTold : Type 0 where
+  pub checks : (m : List ℕ) (r : Checked) → Checks m r → CheckTells m r
+  pub lists : (found : Answer (List Pair)) (old : List ℕ) (r : Listed) (new : List ℕ) → Lists found old r new → ListTells found old r new
+  pub reaches : (m : List ℕ) (n position : ℕ) (r : Reached) → Reaches m n position r → AddressTells (addressFound m n position) r
+  pub sweeps : (found : Answer Class) (first fill : ℕ) (old : List ℕ) (r : Swept) (new : List ℕ)
+      → Sweeps found first fill old r new → SweepTells found first fill old r new
+  pub releases : (m : List ℕ) (id : ℕ) (old : List ℕ) (r : Listed) (after new : List ℕ) → Releases m id old r after new → ReleaseTells m id old r after new
+  pub places : (m : List ℕ) (id : ℕ) (list : List ℕ) (r : Placed) (after : List ℕ) → Places m id list r after → PlaceTells m id list r after
+  pub claims : (m : List ℕ) (size : ℕ) (r : Claimed) (after : List ℕ) → Claims m size r after → ClaimTells m size r after
+  -- demand 3: "Release an ordinary object, with room for its list, and at once place the returned list under its number: both are accepted
+  -- and every byte is as before, check bytes too." Of the promises: the list that the release left, cut to its pairs, is placed.
+  pub returned-placed : (m : List ℕ) → Editable m → (id : ℕ) (old : List ℕ) (r : Listed) (after new : List ℕ) → Releases m id old r after new
+      → (qs : List Pair) → outcome m (release id (length old)) ≡ answered (takes id qs)
+      → (s : Placed) (end : List ℕ) → Places after id (take (2 * length qs) new) s end → (placeNumbers s ≡ (0, 0)) × (end ≡ m)
