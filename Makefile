@@ -4,7 +4,7 @@
 # make compare    many generated maps through the library, map_lines and the second program (SEEDS=n for more),
 #                 and that the stored cases are current
 # make memcheck   the same on fewer maps, under valgrind
-# make bench      the library's time against the second program's, as ratios
+# make bench      the library's time against the second program's, as ratios (BEFORE=file.so: against an earlier build's too)
 # make stack      the stack that each call needs, against what the header says
 # make rust       the tests of the Rust binding
 # make c-example  compiles README's C example and runs it on maps A and B
@@ -46,7 +46,7 @@ memcheck: library
 
 bench: library
 	cd second && cargo build --release --offline -p bench
-	second/target/release/bench
+	second/target/release/bench$(if $(BEFORE), --before "$(BEFORE)")
 
 stack: library
 	cd second && cargo build --release --offline -p stack

@@ -1,23 +1,19 @@
--- Runs of bits: the number that they spell, and the zero bits before the first 1, one bit more at a time.
-use mathlib.Core.Path.{_≡_, subst}
+-- Runs of bits: the number that they spell and the zero bits before the first 1, of a part of them and of the parts that it is cut into.
+use mathlib.Core.Path.{_≡_, refl, sym, ap, _∙_, subst}
 use mathlib.Core.Bool.{Bool, true, false, cond}
-use mathlib.Core.List.{List, _∷_}
-use Prim.Native.Nat.{ℕ, suc, _+_, _-_, _*_, _^_, _<_, _≤_}
-use native.Mathlib.Nat.{lt-of-lt-of-le, pow-suc}
-use native.Mathlib.Numerals.{add-one}
+use mathlib.Core.List.{List, [], _∷_, _++_}
+use Prim.Native.Nat.{ℕ, zero, suc, _+_, _-_, _*_, _/_, _%_, _^_, _<_, _≤_, min}
+use native.Mathlib.Nat.{add-comm, mul-comm, mul-assoc, lt-of-lt-of-le, pow-suc}
 use native.Mathlib.Omega.{arith}
+use lib.Arith.{digits-div}
 use lib.Pow.{pow-mono}
-use lib.ListN.{length, getD}
-use lib.Seq.{slice, slice-cons, slice-empty}
+use lib.Count.{trailingZeros}
+use lib.ListN.{length, getD, take, drop}
+use lib.Seq.{slice, slice-cons, slice-empty, take-add, take-at, drop-at, length-take-le, length-slice, drop-append-le}
 use Rattle.bits.specs.Bits.{value, zeros}
+use Rattle.bits.proofs.Digits.{value-lt}
 
 module _ (B : List Bool) where
-  pub zeros-stop : (f t : ℕ) → f < t → t ≤ length B → getD B f false ≡ true → zeros (slice f t B) ≡ 0
-  zeros-stop f t h l e = rw (slice-cons f t B false h l, e)
-
-  pub zeros-more : (f t : ℕ) → f < t → t ≤ length B → getD B f false ≡ false → zeros (slice f t B) ≡ zeros (slice (f + 1) t B) + 1
-  zeros-more f t h l e = rw (slice-cons f t B false h l, e, add-one f, add-one)
-
   pub zeros-end : (t : ℕ) → zeros (slice t t B) ≡ 0
   zeros-end t = rw (slice-empty t B)
 
@@ -42,3 +38,72 @@ grow v b n i h l hv hb =
 -- fewer than 31 bits leave room for one more in 32
 pub small : (v n i : ℕ) → 0 < i → n ≤ 31 → v < 2 ^ (n - i) → v < 1073741824
 small v n i k h hv = lt-of-lt-of-le hv (pow-mono {i = n - i} {j = 30} (omega arith))
+
+module _ (l : List Bool) (f m t : ℕ) (h : f ≤ m) (k : m ≤ t) (n : m ≤ length l) where
+  -- a part, cut at m
+  slice-parts : slice f t l ≡ slice f m l ++ slice m t l
+  slice-parts =
+      let rest = take (t - m) (drop m l) in
+      let e : m + (t - m) ≡ t = omega arith in
+      let q : take t l ≡ take m l ++ rest = ap (λ (x : ℕ). take x l) (sym e) ∙ take-add m (t - m) l in
+      let r : slice m t l ≡ rest = ap (drop m) q ∙ drop-at (take m l) rest m (length-take-le m l n) in
+      ap (drop f) q ∙ drop-append-le f (take m l) rest (omega (arith, length-take-le m l n)) ∙ ap (λ (x : List Bool). slice f m l ++ x) (sym r)
+
+  pub slice-first : take (m - f) (slice f t l) ≡ slice f m l
+  slice-first = ap (take (m - f)) slice-parts ∙ take-at (slice f m l) (slice m t l) (m - f) (length-slice f m l n)
+
+value-append : (a b : List Bool) → value (a ++ b) ≡ value a + 2 ^ length a * value b
+value-append [] b = omega arith
+value-append (x ∷ a) b = rw pow-suc (omega (arith, value-append a b, mul-assoc (2 ^ length a) 2 (value b), mul-assoc 2 (2 ^ length a) (value b)))
+
+module _ (B : List Bool) (f n t : ℕ) (h : f + n ≤ t) (l : f + n ≤ length B) where
+  low-length : length (slice f (f + n) B) ≡ n
+  low-length = length-slice f (f + n) B l ∙ omega arith
+
+  -- the number of a part: its n low bits, and the number of the others
+  pub value-parts : value (slice f t B) ≡ value (slice f (f + n) B) + 2 ^ n * value (slice (f + n) t B)
+  value-parts =
+      ap value (slice-parts B f (f + n) t (omega arith) h l)
+      ∙ value-append (slice f (f + n) B) (slice (f + n) t B)
+      ∙ ap (λ (x : ℕ). value (slice f (f + n) B) + 2 ^ x * value (slice (f + n) t B)) low-length
+
+  -- without the low bits
+  pub value-from : value (slice f t B) / 2 ^ n ≡ value (slice (f + n) t B)
+  value-from =
+      let low = value (slice f (f + n) B) in
+      let high = value (slice (f + n) t B) in
+      let lt : low < 2 ^ n = rw (ap (λ (x : ℕ). 2 ^ x) (sym low-length)) (value-lt (slice f (f + n) B)) in
+      ap (λ (x : ℕ). x / 2 ^ n) (value-parts ∙ add-comm low (2 ^ n * high) ∙ ap (λ (x : ℕ). x + low) (mul-comm (2 ^ n) high)) ∙ digits-div high lt
+
+-- the trailing zeros of a number, of n bits at most
+pub trailing-zeros : (k n : ℕ) (bs : List Bool) → n ≤ k → n ≤ length bs → min (trailingZeros k (value bs)) n ≡ zeros (take n bs)
+unfolding trailingZeros
+trailing-zeros k zero bs h l = omega arith
+trailing-zeros zero (suc n) bs h l = absurd (omega arith)
+trailing-zeros (suc k) (suc n) [] h l = absurd (omega arith)
+trailing-zeros (suc k) (suc n) (true ∷ bs) h l = let e : (1 + 2 * value bs) % 2 ≡ 1 = omega arith in rw e (omega arith)
+trailing-zeros (suc k) (suc n) (false ∷ bs) h l =
+    let e : (0 + 2 * value bs) % 2 ≡ 0 = omega arith in
+    let g : (0 + 2 * value bs) / 2 ≡ value bs = omega arith in
+    rw (e, g) (omega (arith, trailing-zeros k n bs (omega arith) (omega arith)))
+
+-- the zeros of a part whose first bits are all 0, or are not
+zeros-within : (a b : List Bool) → zeros a < length a → zeros (a ++ b) ≡ zeros a
+zeros-within [] b h = absurd (omega arith)
+zeros-within (true ∷ a) b h = refl
+zeros-within (false ∷ a) b h = ap suc (zeros-within a b (omega arith))
+
+zeros-beyond : (a b : List Bool) → length a ≤ zeros a → zeros (a ++ b) ≡ length a + zeros b
+zeros-beyond [] b h = omega arith
+zeros-beyond (true ∷ a) b h = absurd (omega arith)
+zeros-beyond (false ∷ a) b h = omega (arith, zeros-beyond a b (omega arith))
+
+module _ (B : List Bool) (j stop end : ℕ) (h : j ≤ stop) (k : stop ≤ end) (l : stop ≤ length B) where
+  pub zeros-found : zeros (slice j stop B) < stop - j → zeros (slice j end B) ≡ zeros (slice j stop B)
+  zeros-found z = ap zeros (slice-parts B j stop end h k l) ∙ zeros-within (slice j stop B) (slice stop end B) (omega (arith, length-slice j stop B l))
+
+  pub zeros-passed : stop - j ≤ zeros (slice j stop B) → zeros (slice j end B) ≡ (stop - j) + zeros (slice stop end B)
+  zeros-passed z =
+      ap zeros (slice-parts B j stop end h k l)
+      ∙ zeros-beyond (slice j stop B) (slice stop end B) (omega (arith, length-slice j stop B l))
+      ∙ ap (λ (x : ℕ). x + zeros (slice stop end B)) (length-slice j stop B l)

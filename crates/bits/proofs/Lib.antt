@@ -4,4 +4,5 @@ pub mod Digits
 pub mod Bytes
 pub mod Stored
 pub mod BitRuns
+pub mod Words
 pub mod Xor

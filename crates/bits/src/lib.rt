@@ -8,10 +8,11 @@
 // at the end.
 ghost use mathlib.Core.Path.{_≡_};
 ghost use mathlib.Core.Bool.{true, false, cond, _&&_};
-ghost use Prim.Native.Nat.{_+_, _-_, _*_, _^_, _<_, _≤_};
+ghost use Prim.Native.Nat.{_+_, _-_, _*_, _%_, _^_, _<_, _≤_};
 ghost use lib.ListN.{length, getD, set};
 ghost use lib.Seq.{slice, sets};
 ghost use Rattle.bits.specs.Bits.{byteBits, numberBits, value, zeros};
+ghost use Rattle.bits.specs.Laws.{BitLaws};
 
 // Bit b.
 pub fn bit(s: &[u8], b: usize) -> bool
@@ -105,19 +106,74 @@ fn write_some(s: &mut [u8], b: usize, n: usize, w: u32) -> Rest
     }
 }
 
-// How many 0 bits stand from `from` on before the first 1, or before `end` where there is none.
+// How many 0 bits stand from `from` on before the first 1, or before `end` where there is none. They are counted a word at a time.
 pub fn zero_run(s: &[u8], from: usize, end: usize) -> usize
     requires { ⌜ (from ≤ end) × (end ≤ length (now s) * 8) ⌝ }
     ensures { λ r. ⌜ (r ≡ zeros (slice from end (byteBits (now (s .entry))))) × (from + r ≤ end) ⌝ }
 {
     let mut j = from;
     while j < end {
-        if bit(s, j) {
+        let stop = word_end(j, end);
+        j += zeros_in_word(s, j, stop);
+        if j < stop {
             return j - from;
         }
-        j += 1;
     }
     j - from
+}
+
+// Where the word of eight bytes that begins with j's byte ends, or `end` if that comes first.
+fn word_end(j: usize, end: usize) -> usize
+    requires { ⌜ j < end ⌝ }
+    ensures { λ r. ⌜ (j < r) × (r ≤ end) × (j % 8 + (r - j) ≤ 64) ⌝ }
+{
+    let left = 64 - j % 8;
+    if end - j < left {
+        return end;
+    }
+    j + left
+}
+
+// The same as `zero_run` within that word: its trailing zero bits, once the bits below j are shifted out. A 1 from `stop` on does not count.
+fn zeros_in_word(s: &[u8], j: usize, stop: usize) -> usize
+    requires { ⌜ (j ≤ stop) × (stop ≤ length (now s) * 8) × (j % 8 + (stop - j) ≤ 64) ⌝ }
+    ensures { λ r. ⌜ (r ≡ zeros (slice j stop (byteBits (now (s .entry))))) × (j + r ≤ stop) ⌝ }
+{
+    let zeros = usize::trailing_zeros(word64(s, j / 8) >> (j % 8)) as usize;
+    if zeros < stop - j { zeros } else { stop - j }
+}
+
+// The word of the eight bytes from byte i on, lowest byte first. Bytes past the slice's end count as 0.
+fn word64(s: &[u8], i: usize) -> usize
+    requires { ⌜ i ≤ length (now s) ⌝ }
+    ensures { λ r. ⌜ r ≡ value (slice (8 * i) (8 * i + 64) (byteBits (now (s .entry)))) ⌝ }
+{
+    if s.len() - i < 8 {
+        return last_word(s, i);
+    }
+    word32(s, i) + word32(s, i + 4) * 4294967296
+}
+
+// The same where fewer than eight bytes are left.
+fn last_word(s: &[u8], i: usize) -> usize
+    requires { ⌜ (i ≤ length (now s)) × (length (now s) < i + 8) ⌝ }
+    ensures { λ r. ⌜ r ≡ value (slice (8 * i) (8 * i + 64) (byteBits (now (s .entry)))) ⌝ }
+{
+    let mut word = 0;
+    let mut k = s.len();
+    while i < k {
+        k -= 1;
+        word = word * 256 + wide(s[k]);
+    }
+    word
+}
+
+// The word of the four bytes from byte i on, lowest byte first.
+pub fn word32(s: &[u8], i: usize) -> usize
+    requires { ⌜ i + 4 ≤ length (now s) ⌝ }
+    ensures { λ r. ⌜ (r ≡ value (slice (8 * i) (8 * i + 32) (byteBits (now (s .entry))))) × (r < 2 ^ 32) ⌝ }
+{
+    wide(s[i]) + wide(s[i + 1]) * 256 + wide(s[i + 2]) * 65536 + wide(s[i + 3]) * 16777216
 }
 
 // Both hold. A choice that is a call keeps its callers' loops free of joining branches.
@@ -150,3 +206,8 @@ pub fn minus(a: usize, b: usize) -> usize
     }
     a - b
 }
+
+// The laws of specs/Laws, as a contract: the function does nothing.
+pub fn bit_laws()
+    ensures { λ _. ⌜ BitLaws ⌝ }
+{}

@@ -9,9 +9,8 @@
 // and by byte columns as document 000 has it; `CheckLaws` says that they agree on every block. The product
 // uses the words.
 ghost use mathlib.Core.Path.{_≡_};
-ghost use Prim.Native.Nat.{_+_, _*_, _^_, _<_, _≤_};
-ghost use lib.ListN.{length, getD};
-ghost use Rattle.checks.specs.Words.{word, foldBytes, zoneCheck};
+ghost use Prim.Native.Nat.{_<_};
+ghost use Rattle.checks.specs.Words.{foldBytes, zoneCheck};
 ghost use Rattle.checks.specs.Columns.{noSums, added, foldColumns, columnCheck};
 ghost use Rattle.checks.specs.Cross.{amount};
 ghost use Rattle.checks.specs.Laws.{CheckLaws};
@@ -28,25 +27,11 @@ pub fn zone_check(block: &[u8]) -> u8
     }
     while 4 < i {
         i -= 4;
-        t = t % 4294967296 + t / 4294967296 + word_at(block, i);
+        t = t % 4294967296 + t / 4294967296 + bits::word32(block, i);
     }
-    let word = word_at(block, 0);
+    let word = bits::word32(block, 0);
     let first = word - bits::wide(block[0]);
     fold_bytes(t % 4294967296 + t / 4294967296 + first)
-}
-
-// The word at byte i.
-fn word_at(s: &[u8], i: usize) -> usize
-    requires { ⌜ i + 4 ≤ length (now s) ⌝ }
-    ensures value { λ r.
-        ⌜ r ≡ word (getD (now (s .entry)) i 0) (getD (now (s .entry)) (i + 1) 0)
-        (getD (now (s .entry)) (i + 2) 0) (getD (now (s .entry)) (i + 3) 0) ⌝ }
-    ensures high { λ r. ⌜ r < 2 ^ 32 ⌝ }
-{
-    bits::wide(s[i])
-        + bits::wide(s[i + 1]) * 256
-        + bits::wide(s[i + 2]) * 65536
-        + bits::wide(s[i + 3]) * 16777216
 }
 
 // The exclusive-or of the four lowest bytes.

@@ -2,7 +2,8 @@
 //! growing size, and prints the times as Markdown tables. The reference is
 //! the yardstick: it is written to be plain, with lists on the heap.
 //!
-//! `--quick` makes one round, to see that all of it runs.
+//! `--quick` makes one round, to see that all of it runs. `--before FILE.so`
+//! measures an earlier build of the product too, and adds a table of the two.
 
 mod maps;
 mod sides;
@@ -14,6 +15,8 @@ use std::process::{Command, ExitCode};
 use std::time::Duration;
 
 use maps::{Size, NAMES, ZONES};
+use product::Calls;
+use sides::{sides, Side};
 use timing::{agree, Lowest};
 
 /// How much is measured. There are several passes over all calls, so that a
@@ -35,41 +38,63 @@ const QUICK: Plan = Plan {
 };
 
 fn main() -> ExitCode {
-    let arguments: Vec<String> = env::args().skip(1).collect();
-    let plan = match arguments.as_slice() {
-        [] => FULL,
-        [only] if only == "--quick" => QUICK,
-        _ => {
-            eprintln!("the only argument known is --quick");
+    let (plan, before) = match arguments() {
+        Ok(known) => known,
+        Err(reason) => {
+            eprintln!("{reason}");
             return ExitCode::from(2);
         }
     };
 
+    let compared = before.is_some();
+    let sides = sides(before);
     let sizes: Vec<Size> = ZONES.into_iter().map(Size::new).collect();
     for size in &sizes {
         for (name, cases) in NAMES.iter().zip(&size.cases) {
-            if !cases.iter().all(agree) {
+            if !cases.iter().all(|case| agree(&sides, case)) {
                 println!("{} zones, {name}: the answers differ", size.zones);
                 return ExitCode::FAILURE;
             }
         }
     }
 
-    let times = measure(&sizes, &plan);
+    let times = measure(&sides, &sizes, &plan);
     print_how(&times, &plan);
     print_ratios(&sizes, &times);
     print_growth(&sizes, &times);
+    if compared {
+        print_change(&sizes, &times);
+    }
     ExitCode::SUCCESS
 }
 
+/// What the arguments ask for: how much, and the earlier build if one is named.
+fn arguments() -> Result<(Plan, Option<Calls>), String> {
+    let (mut plan, mut before) = (FULL, None);
+    let mut words = env::args().skip(1);
+    while let Some(word) = words.next() {
+        match word.as_str() {
+            "--quick" => plan = QUICK,
+            "--before" => {
+                let file = words.next().ok_or("--before is followed by no file")?;
+                // SAFETY: whoever names the file takes a build that has the
+                // signatures of today, as the README asks.
+                before = Some(unsafe { Calls::open(&file) }?);
+            }
+            _ => return Err("the arguments known are --quick and --before FILE.so".to_string()),
+        }
+    }
+    Ok((plan, before))
+}
+
 /// The lowest times by size and call.
-fn measure(sizes: &[Size], plan: &Plan) -> Vec<Vec<Lowest>> {
-    let row = |size: &Size| NAMES.map(|_| Lowest::new(size.maps())).into();
+fn measure(sides: &[Side], sizes: &[Size], plan: &Plan) -> Vec<Vec<Lowest>> {
+    let row = |size: &Size| NAMES.map(|_| Lowest::new(sides.len(), size.maps())).into();
     let mut times: Vec<Vec<Lowest>> = sizes.iter().map(row).collect();
     for _ in 0..plan.passes {
         for (size, row) in sizes.iter().zip(&mut times) {
             for (cases, lowest) in size.cases.iter().zip(row) {
-                lowest.add(cases, plan.time);
+                lowest.add(sides, cases, plan.time);
             }
         }
     }
@@ -133,6 +158,10 @@ fn print_head(first: &[&str]) {
     println!("|{}", "---:|".repeat(names.len()));
 }
 
+fn print_ratio(time: f64, other: f64) {
+    print!(" {time:.1} / {other:.1} = {:.2} |", time / other);
+}
+
 fn print_ratios(sizes: &[Size], times: &[Vec<Lowest>]) {
     println!("Microseconds: product / reference = ratio.");
     println!();
@@ -140,10 +169,10 @@ fn print_ratios(sizes: &[Size], times: &[Vec<Lowest>]) {
     for (size, row) in sizes.iter().zip(times) {
         print!("| {} | {} |", size.zones, size.map_bytes);
         for lowest in row {
-            let product = lowest.product_microseconds();
-            let reference = lowest.reference_microseconds();
-            let ratio = product / reference;
-            print!(" {product:.1} / {reference:.1} = {ratio:.2} |");
+            print_ratio(
+                lowest.product_microseconds(),
+                lowest.reference_microseconds(),
+            );
         }
         println!();
     }
@@ -165,6 +194,23 @@ fn print_growth(sizes: &[Size], times: &[Vec<Lowest>]) {
                 " {:.2} |",
                 lowest.product_microseconds() / size.zones as f64
             );
+        }
+        println!();
+    }
+}
+
+fn print_change(sizes: &[Size], times: &[Vec<Lowest>]) {
+    println!();
+    println!(
+        "Microseconds: after / before = ratio; after is the product, before the earlier build, which was called \
+         in the same rounds and gave the same answers and bytes."
+    );
+    println!();
+    print_head(&["zones"]);
+    for (size, row) in sizes.iter().zip(times) {
+        print!("| {} |", size.zones);
+        for lowest in row {
+            print_ratio(lowest.product_microseconds(), lowest.before_microseconds());
         }
         println!();
     }

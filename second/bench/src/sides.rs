@@ -1,6 +1,6 @@
-//! One call, made by the product or by the reference.
+//! One call, made by the product, an earlier build of it or the reference.
 
-use product::{call, Answer};
+use product::{Answer, Calls};
 use reference::case::{Call, Case};
 use reference::{edit, map, read, Refusal};
 
@@ -36,16 +36,36 @@ impl Lent {
     }
 }
 
-/// A way to make a call.
-pub type Side = fn(&Case, &mut Lent) -> Answer;
+/// Who makes a call.
+pub enum Side {
+    /// The product as it is linked, or an earlier build. Both are called in
+    /// the same way, so that nothing but their code and its place differs.
+    Library(Calls),
+    Reference,
+}
 
-/// The call as the product makes it.
-pub fn product(case: &Case, lent: &mut Lent) -> Answer {
-    call(case, &mut lent.map, &mut lent.list, &mut lent.image)
+impl Side {
+    pub fn call(&self, case: &Case, lent: &mut Lent) -> Answer {
+        match self {
+            Side::Library(calls) => {
+                calls.call(case, &mut lent.map, &mut lent.list, &mut lent.image)
+            }
+            Side::Reference => reference(case, lent),
+        }
+    }
+}
+
+/// All who make each call, in the order of a round: the product first and the
+/// reference last, between them the earlier build if there is one.
+pub fn sides(before: Option<Calls>) -> Vec<Side> {
+    let mut sides = vec![Side::Library(Calls::LINKED)];
+    sides.extend(before.map(Side::Library));
+    sides.push(Side::Reference);
+    sides
 }
 
 /// The call as the reference makes it.
-pub fn reference(case: &Case, lent: &mut Lent) -> Answer {
+fn reference(case: &Case, lent: &mut Lent) -> Answer {
     let (map, list) = (&mut lent.map, &mut lent.list);
     let (wide, fill, id) = (case.wide, case.fill, case.number);
     let one = |answer: Result<u64, Refusal>| answer.map(|value| [value, 0, 0]);

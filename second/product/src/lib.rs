@@ -1,8 +1,9 @@
-//! The product's calls, each made from a case. Nothing is allocated here, so
-//! that a call can be timed and its stack measured.
+//! The product's calls, each made from a case. No call allocates here, so that
+//! it can be timed and its stack measured.
 
 #[path = "../../../rust/src/declared.rs"]
 mod declared;
+mod opened;
 
 use declared::*;
 use reference::case::{Call, Case};
@@ -19,46 +20,95 @@ pub struct Answer {
 /// What every number lent holds before a call, which must write them all.
 const UNWRITTEN: u64 = 0xDEAD_BEEF_DEAD_BEEF;
 
-/// Makes a case's call on the bytes and entries lent in place of its own.
-pub fn call(case: &Case, map: &mut [u8], list: &mut [u32], image: &mut [u8]) -> Answer {
-    let (map, map_len) = (map.as_mut_ptr(), map.len());
-    let (list, list_len) = (list.as_mut_ptr(), list.len());
-    let (image, image_len) = (image.as_mut_ptr(), image.len());
-    let (wide, fill, id) = (case.wide, case.fill, case.number);
-    let (mut zone, mut value) = (UNWRITTEN as u32, UNWRITTEN);
-    let (mut new, mut start, mut length) = (zone, zone, zone);
-    let (z, v) = (&mut zone, &mut value);
-    // SAFETY: each pointer and length are a slice's that is borrowed by this
-    // function alone, or point to a local number.
-    let number = unsafe {
-        match case.call {
-            Call::Check => shoalswift_check(map, map_len, z),
-            Call::List => shoalswift_list(map, map_len, id, list, list_len, v, z),
-            Call::Free => shoalswift_free(map, map_len, list, list_len, v, z),
-            Call::Address => shoalswift_address(map, map_len, id, wide, v, z),
-            Call::SweepObject => {
-                shoalswift_sweep_object(map, map_len, image, image_len, wide, fill, id, v, z)
+/// The functions of one version of the product. As `LINKED` is made of those
+/// declared, the compiler sees that the types are today's. An earlier version
+/// with other signatures cannot be compared.
+#[derive(Clone, Copy)]
+pub struct Calls {
+    check: unsafe extern "C" fn(*const u8, usize, *mut u32) -> u32,
+    list: unsafe extern "C" fn(*const u8, usize, u32, *mut u32, usize, *mut u64, *mut u32) -> u32,
+    free: unsafe extern "C" fn(*const u8, usize, *mut u32, usize, *mut u64, *mut u32) -> u32,
+    address: unsafe extern "C" fn(*const u8, usize, u32, u64, *mut u64, *mut u32) -> u32,
+    sweep_object: unsafe extern "C" fn(
+        *const u8,
+        usize,
+        *mut u8,
+        usize,
+        u64,
+        u8,
+        u32,
+        *mut u64,
+        *mut u32,
+    ) -> u32,
+    sweep_free:
+        unsafe extern "C" fn(*const u8, usize, *mut u8, usize, u64, u8, *mut u64, *mut u32) -> u32,
+    release: unsafe extern "C" fn(*mut u8, usize, u32, *mut u32, usize, *mut u64, *mut u32) -> u32,
+    place: unsafe extern "C" fn(*mut u8, usize, u32, *const u32, usize, *mut u32) -> u32,
+    claim: unsafe extern "C" fn(*mut u8, usize, u64, *mut u32, *mut u32, *mut u32, *mut u32) -> u32,
+}
+
+impl Calls {
+    /// The product as it is linked.
+    pub const LINKED: Calls = Calls {
+        check: shoalswift_check,
+        list: shoalswift_list,
+        free: shoalswift_free,
+        address: shoalswift_address,
+        sweep_object: shoalswift_sweep_object,
+        sweep_free: shoalswift_sweep_free,
+        release: shoalswift_release,
+        place: shoalswift_place,
+        claim: shoalswift_claim,
+    };
+
+    /// Makes a case's call on the bytes and entries lent in place of its own.
+    /// Inlined, so that the frame which hands the arguments over is one.
+    #[inline(always)]
+    pub fn call(&self, case: &Case, map: &mut [u8], list: &mut [u32], image: &mut [u8]) -> Answer {
+        let (map, map_len) = (map.as_mut_ptr(), map.len());
+        let (list, list_len) = (list.as_mut_ptr(), list.len());
+        let (image, image_len) = (image.as_mut_ptr(), image.len());
+        let (wide, fill, id) = (case.wide, case.fill, case.number);
+        let (mut zone, mut value) = (UNWRITTEN as u32, UNWRITTEN);
+        let (mut new, mut start, mut length) = (zone, zone, zone);
+        let (z, v) = (&mut zone, &mut value);
+        // SAFETY: the functions have these types; each pointer and length are a
+        // slice's borrowed by this function alone, or point to a local number.
+        let number = unsafe {
+            match case.call {
+                Call::Check => (self.check)(map, map_len, z),
+                Call::List => (self.list)(map, map_len, id, list, list_len, v, z),
+                Call::Free => (self.free)(map, map_len, list, list_len, v, z),
+                Call::Address => (self.address)(map, map_len, id, wide, v, z),
+                Call::SweepObject => {
+                    (self.sweep_object)(map, map_len, image, image_len, wide, fill, id, v, z)
+                }
+                Call::SweepFree => {
+                    (self.sweep_free)(map, map_len, image, image_len, wide, fill, v, z)
+                }
+                Call::Release => (self.release)(map, map_len, id, list, list_len, v, z),
+                Call::Place => (self.place)(map, map_len, id, list, list_len, z),
+                Call::Claim => {
+                    (self.claim)(map, map_len, wide, &mut new, &mut start, &mut length, z)
+                }
             }
-            Call::SweepFree => {
-                shoalswift_sweep_free(map, map_len, image, image_len, wide, fill, v, z)
-            }
-            Call::Release => shoalswift_release(map, map_len, id, list, list_len, v, z),
-            Call::Place => shoalswift_place(map, map_len, id, list, list_len, z),
-            Call::Claim => {
-                shoalswift_claim(map, map_len, wide, &mut new, &mut start, &mut length, z)
-            }
+        };
+        let values = match case.call.values() {
+            0 => [0; 3],
+            1 => [value, 0, 0],
+            _ => [new, start, length].map(u64::from),
+        };
+        Answer {
+            number,
+            zone,
+            values,
         }
-    };
-    let values = match case.call.values() {
-        0 => [0; 3],
-        1 => [value, 0, 0],
-        _ => [new, start, length].map(u64::from),
-    };
-    Answer {
-        number,
-        zone,
-        values,
     }
+}
+
+/// Makes a case's call by the linked product, as `Calls::call` does.
+pub fn call(case: &Case, map: &mut [u8], list: &mut [u32], image: &mut [u8]) -> Answer {
+    Calls::LINKED.call(case, map, list, image)
 }
 
 /// What the check tells of a record: S, B, nzones, P and disc_size.

@@ -1,11 +1,12 @@
 -- The zeros passed and those still ahead are all of them.
 use Prim.Native.Nat.{ℕ, _+_, _-_, _≤_}
-use mathlib.Core.Path.{_≡_, sym, ap, _∙_}
+use mathlib.Core.Path.{_≡_, ap}
+use lib.ListN.{length}
 use lib.Seq.{slice}
 use native.Mathlib.Omega.{arith}
 use Rattle.bits.specs.Bits.{byteBits, zeros}
 use Rattle.bits.proofs.Bytes.{length-byte-bits}
-use Rattle.bits.proofs.BitRuns.{zeros-stop, zeros-more, zeros-end}
+use Rattle.bits.proofs.BitRuns.{zeros-end, zeros-found, zeros-passed}
 use borrow.Author.Needs.{needs}
 use Rattle.bits.proofs.zero_run.Statement.{statement}
 use Rattle.bits.proofs.zero_run.Tie as tie
@@ -18,15 +19,22 @@ abbrev μ-loop : tie.MeasureT-loop
 
 returns : tie.Need-returns Inv-loop μ-loop
 returns c =
-    let p = c .before .before .before in
+    let z = c .before in
+    let p = z .before .before .before in
     let a = p .before .before .args in
-    omega (arith, zeros-stop (byteBits (a .s .now)) (p .loop .j) (a .end) (search needs) (omega (arith, length-byte-bits (a .s .now))) (sym (c .before .bit .ensures) ∙ c .if1 .taken))
+    let stop = z .before .word-end .result in
+    let long : stop ≤ length (byteBits (a .s .now)) = omega (arith, length-byte-bits (a .s .now)) in
+    omega (arith, zeros-found (byteBits (a .s .now)) (p .loop .j) stop (a .end) (search needs) (search needs) long (omega arith))
 
 loop-again : tie.Need-loop-again Inv-loop μ-loop
 loop-again c =
-    let p = c .before .before .before in
+    let z = c .before in
+    let p = z .before .before .before in
     let a = p .before .before .args in
-    omega (arith, zeros-more (byteBits (a .s .now)) (p .loop .j) (a .end) (search needs) (omega (arith, length-byte-bits (a .s .now))) (sym (c .before .bit .ensures) ∙ c .if1 .left))
+    let stop = z .before .word-end .result in
+    let long : stop ≤ length (byteBits (a .s .now)) = omega (arith, length-byte-bits (a .s .now)) in
+    let e : p .loop .j + z .zeros-in-word .result ≡ stop = omega arith in
+    rw e (omega (arith, zeros-passed (byteBits (a .s .now)) (p .loop .j) stop (a .end) (search needs) (search needs) long (omega arith)))
 
 returns-2 : tie.Need-returns-2 Inv-loop μ-loop
 returns-2 c =
@@ -42,9 +50,10 @@ zero-run-spec =
     μ-loop
     (λ c. search needs)
     (λ c κs. search needs)
+    (λ c κs. search needs)
+    (λ c. search needs)
     (λ c. search needs)
     returns
-    (λ c. search needs)
     (λ c. search needs)
     loop-again
     (λ c. search needs)

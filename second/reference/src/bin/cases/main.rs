@@ -1,12 +1,14 @@
 //! Writes the stored cases: `cases OUTDIR` makes OUTDIR/stdin (the cases) and
 //! OUTDIR/stdout (a line for each). The set is fixed: written-out cases first,
-//! a module for each part of document 01, then some of a fixed range of seeds.
+//! a module for each part of document 01 and one for R-3 of document 02, then
+//! some of a fixed range of seeds.
 //! `cases` alone lists the groups with the lines of OUTDIR/stdout they make.
 
 mod bench;
 mod calls;
 mod check;
 mod claim;
+mod closing;
 mod listing;
 mod maps;
 mod order;
@@ -35,7 +37,7 @@ const SIZES: Sizes = Sizes {
 const MOST_BYTES: usize = 1_500_000;
 const MOST_CASES: usize = 1_000;
 
-const MODULES: [(&str, &[Group]); 10] = [
+const MODULES: [(&str, &[Group]); 11] = [
     ("bench", bench::GROUPS),
     ("record", record::GROUPS),
     ("check", check::GROUPS),
@@ -46,6 +48,7 @@ const MODULES: [(&str, &[Group]); 10] = [
     ("place", place::GROUPS),
     ("claim", claim::GROUPS),
     ("runs", runs::GROUPS),
+    ("closing", closing::GROUPS),
 ];
 
 /// A group's place among the cases: its module and function, its first case,

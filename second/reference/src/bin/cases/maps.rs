@@ -57,6 +57,16 @@ pub fn clusters_of_eight(nzones: u8) -> DiscRecord {
     })
 }
 
+/// Sectors of 1,024 bytes with a k of 1, and m 16 for an idlen of 15: Z 8160,
+/// P 510, 1,024 bytes a map bit.
+pub fn large_sectors(nzones: u8) -> DiscRecord {
+    whole_disc(DiscRecord {
+        log2secsize: 10,
+        idlen: 15,
+        ..plain(nzones)
+    })
+}
+
 /// Z no multiple of 8: the zone ends after bit 2 of its block's byte 255.
 pub fn odd_zone_end(nzones: u8) -> DiscRecord {
     whole_disc(DiscRecord {
