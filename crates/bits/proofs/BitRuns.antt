@@ -8,8 +8,8 @@ use native.Mathlib.Omega.{arith}
 use lib.Arith.{digits-div}
 use lib.Pow.{pow-mono}
 use lib.Count.{trailingZeros}
-use lib.ListN.{length, getD, take, drop}
-use lib.Seq.{slice, slice-cons, slice-empty, take-add, take-at, drop-at, length-take-le, length-slice, drop-append-le}
+use lib.ListN.{length, getD, take, drop, take-append-drop}
+use lib.Seq.{slice, slice-cons, slice-empty, take-take, take-at, length-take-le, length-slice, drop-append-le}
 use Rattle.bits.specs.Bits.{value, zeros}
 use Rattle.bits.proofs.Digits.{value-lt}
 
@@ -43,11 +43,8 @@ module _ (l : List Bool) (f m t : ℕ) (h : f ≤ m) (k : m ≤ t) (n : m ≤ le
   -- a part, cut at m
   slice-parts : slice f t l ≡ slice f m l ++ slice m t l
   slice-parts =
-      let rest = take (t - m) (drop m l) in
-      let e : m + (t - m) ≡ t = omega arith in
-      let q : take t l ≡ take m l ++ rest = ap (λ (x : ℕ). take x l) (sym e) ∙ take-add m (t - m) l in
-      let r : slice m t l ≡ rest = ap (drop m) q ∙ drop-at (take m l) rest m (length-take-le m l n) in
-      ap (drop f) q ∙ drop-append-le f (take m l) rest (omega (arith, length-take-le m l n)) ∙ ap (λ (x : List Bool). slice f m l ++ x) (sym r)
+      ap (drop f) (sym (take-append-drop m (take t l)) ∙ ap (λ (x : List Bool). x ++ slice m t l) (take-take m t l k))
+      ∙ drop-append-le f (take m l) (slice m t l) (omega (arith, length-take-le m l n))
 
   pub slice-first : take (m - f) (slice f t l) ≡ slice f m l
   slice-first = ap (take (m - f)) slice-parts ∙ take-at (slice f m l) (slice m t l) (m - f) (length-slice f m l n)
@@ -87,7 +84,7 @@ trailing-zeros (suc k) (suc n) (false ∷ bs) h l =
     let g : (0 + 2 * value bs) / 2 ≡ value bs = omega arith in
     rw (e, g) (omega (arith, trailing-zeros k n bs (omega arith) (omega arith)))
 
--- the zeros of a part whose first bits are all 0, or are not
+-- the zeros of bits that others follow, where they have a 1 and where they have none
 zeros-within : (a b : List Bool) → zeros a < length a → zeros (a ++ b) ≡ zeros a
 zeros-within [] b h = absurd (omega arith)
 zeros-within (true ∷ a) b h = refl

@@ -3,7 +3,7 @@ use mathlib.Core.Path.{_≡_, sym, ap, ap₂, _∙_}
 use mathlib.Core.Bool.{Bool}
 use mathlib.Core.List.{List, [], _∷_, _++_}
 use Prim.Native.Nat.{ℕ, zero, suc, _+_, _-_, _*_, _/_, _%_, _^_, _<_, _≤_, min}
-use native.Mathlib.Nat.{mul-comm, lt-of-lt-of-le}
+use native.Mathlib.Nat.{lt-of-lt-of-le}
 use native.Mathlib.Omega.{arith}
 use lib.Pow.{pow-mono}
 use lib.Count.{trailingZeros}
@@ -67,9 +67,8 @@ pub word-halves : (s : List ℕ) (i : ℕ) → i + 8 ≤ length s
 word-halves s i h =
     let e : 8 * i + 32 ≡ 8 * (i + 4) = omega arith in
     let g : 8 * i + 64 ≡ 8 * (i + 4) + 32 = omega arith in
-    value-parts (byteBits s) (8 * i) 32 (8 * i + 64) (omega arith) (omega (arith, length-byte-bits s))
-    ∙ ap₂ (λ (x y : ℕ). value (slice (8 * i) (8 * i + 32) (byteBits s)) + 4294967296 * value (slice x y (byteBits s))) e g
-    ∙ ap (λ (x : ℕ). value (slice (8 * i) (8 * i + 32) (byteBits s)) + x) (mul-comm 4294967296 (value (slice (8 * (i + 4)) (8 * (i + 4) + 32) (byteBits s))))
+    let p = value-parts (byteBits s) (8 * i) 32 (8 * i + 64) (omega arith) (omega (arith, length-byte-bits s)) in
+    omega (arith, p, ap₂ (λ (x y : ℕ). value (slice x y (byteBits s))) e g)
 
 -- the zeros of the bits from j to stop, in a word that begins with j's byte
 pub word-zeros : (s : List ℕ) (j stop w : ℕ) → j ≤ stop → stop ≤ length s * 8 → j % 8 + (stop - j) ≤ 64

@@ -8,19 +8,19 @@ use Rattle.bits.specs.Bits.{zeros}
 use Rattle.bits.proofs.bit_laws.Statement.{statement}
 use Rattle.bits.proofs.bit_laws.Tie as tie
 
-closed : (n : ℕ) (bs : List Bool) → zeros (replicate n false ++ true ∷ bs) ≡ n
-closed zero bs = refl
-closed (suc n) bs = ap suc (closed n bs)
+closing-bit : (n : ℕ) (bs : List Bool) → zeros (replicate n false ++ true ∷ bs) ≡ n
+closing-bit zero bs = refl
+closing-bit (suc n) bs = ap suc (closing-bit n bs)
 
-not-closed : (n : ℕ) → zeros (replicate n false) ≡ n
-not-closed zero = refl
-not-closed (suc n) = ap suc (not-closed n)
+no-closing-bit : (n : ℕ) → zeros (replicate n false) ≡ n
+no-closing-bit zero = refl
+no-closing-bit (suc n) = ap suc (no-closing-bit n)
 
 returns : tie.Need-returns
 returns c =
     record {
-      closed = closed;
-      not-closed = not-closed;
+      closing-bit = closing-bit;
+      no-closing-bit = no-closing-bit;
       lowest-first = refl;
       word-ends = refl;
       word-ends-from-5 = refl;
