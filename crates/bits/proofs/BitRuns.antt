@@ -1,15 +1,14 @@
 -- Runs of bits: the number that they spell and the zero bits before the first 1, of a part of them and of the parts that it is cut into.
-use mathlib.Core.Path.{_≡_, refl, sym, ap, _∙_, subst}
-use mathlib.Core.Bool.{Bool, true, false, cond}
+use mathlib.Core.Path.{_≡_, refl, sym, ap, _∙_}
+use mathlib.Core.Bool.{Bool, true, false}
 use mathlib.Core.List.{List, [], _∷_, _++_}
 use Prim.Native.Nat.{ℕ, zero, suc, _+_, _-_, _*_, _/_, _%_, _^_, _<_, _≤_, min}
-use native.Mathlib.Nat.{add-comm, mul-comm, mul-assoc, lt-of-lt-of-le, pow-suc}
+use native.Mathlib.Nat.{add-comm, mul-comm, mul-assoc, pow-suc}
 use native.Mathlib.Omega.{arith}
-use lib.Arith.{digits-div}
-use lib.Pow.{pow-mono}
+use lib.Arith.{digits-div, digits-mod}
 use lib.Count.{trailingZeros}
-use lib.ListN.{length, getD, take, drop, take-append-drop}
-use lib.Seq.{slice, slice-cons, slice-empty, take-take, take-at, length-take-le, length-slice, drop-append-le}
+use lib.ListN.{length, take, drop, take-append-drop}
+use lib.Seq.{slice, slice-empty, take-take, take-at, length-take-le, length-slice, drop-append-le}
 use Rattle.bits.specs.Bits.{value, zeros}
 use Rattle.bits.proofs.Digits.{value-lt}
 
@@ -19,25 +18,6 @@ module _ (B : List Bool) where
 
   pub value-end : (t : ℕ) → 0 ≡ value (slice t t B)
   value-end t = rw (slice-empty t B)
-
-  -- the lower bit i - 1 in front of those from i on
-  pub value-more : (at n i v : ℕ) → 0 < i → i ≤ n → at + n ≤ length B → v ≡ value (slice (at + i) (at + n) B)
-      → v * 2 + cond (getD B (at + (i - 1)) false) 1 0 ≡ value (slice (at + (i - 1)) (at + n) B)
-  value-more at n i v h l g ev =
-      let e : suc (at + (i - 1)) ≡ at + i = omega arith in
-      let q = subst (λ (x : ℕ). slice (at + (i - 1)) (at + n) B ≡ getD B (at + (i - 1)) false ∷ slice x (at + n) B) e
-      (slice-cons (at + (i - 1)) (at + n) B false (omega arith) g) in
-      rw q (omega arith)
-
--- a number of n - i bits, and one bit more
-pub grow : (v b n i : ℕ) → 0 < i → i ≤ n → v < 2 ^ (n - i) → b < 2 → v * 2 + b < 2 ^ (n - (i - 1))
-grow v b n i h l hv hb =
-    let e : n - (i - 1) ≡ suc (n - i) = omega arith in
-    rw (e, pow-suc) (omega arith)
-
--- fewer than 31 bits leave room for one more in 32
-pub small : (v n i : ℕ) → 0 < i → n ≤ 31 → v < 2 ^ (n - i) → v < 1073741824
-small v n i k h hv = lt-of-lt-of-le hv (pow-mono {i = n - i} {j = 30} (omega arith))
 
 module _ (l : List Bool) (f m t : ℕ) (h : f ≤ m) (k : m ≤ t) (n : m ≤ length l) where
   -- a part, cut at m
@@ -64,13 +44,23 @@ module _ (B : List Bool) (f n t : ℕ) (h : f + n ≤ t) (l : f + n ≤ length B
       ∙ value-append (slice f (f + n) B) (slice (f + n) t B)
       ∙ ap (λ (x : ℕ). value (slice f (f + n) B) + 2 ^ x * value (slice (f + n) t B)) low-length
 
-  -- without the low bits
-  pub value-from : value (slice f t B) / 2 ^ n ≡ value (slice (f + n) t B)
-  value-from =
+  low-lt : value (slice f (f + n) B) < 2 ^ n
+  low-lt = rw (ap (λ (x : ℕ). 2 ^ x) (sym low-length)) (value-lt (slice f (f + n) B))
+
+  -- the low bits as the last digit
+  value-digits : value (slice f t B) ≡ value (slice (f + n) t B) * 2 ^ n + value (slice f (f + n) B)
+  value-digits =
       let low = value (slice f (f + n) B) in
       let high = value (slice (f + n) t B) in
-      let lt : low < 2 ^ n = rw (ap (λ (x : ℕ). 2 ^ x) (sym low-length)) (value-lt (slice f (f + n) B)) in
-      ap (λ (x : ℕ). x / 2 ^ n) (value-parts ∙ add-comm low (2 ^ n * high) ∙ ap (λ (x : ℕ). x + low) (mul-comm (2 ^ n) high)) ∙ digits-div high lt
+      value-parts ∙ add-comm low (2 ^ n * high) ∙ ap (λ (x : ℕ). x + low) (mul-comm (2 ^ n) high)
+
+  -- without the low bits
+  pub value-from : value (slice f t B) / 2 ^ n ≡ value (slice (f + n) t B)
+  value-from = ap (λ (x : ℕ). x / 2 ^ n) value-digits ∙ digits-div (value (slice (f + n) t B)) low-lt
+
+  -- without the others
+  pub value-first : value (slice f t B) % 2 ^ n ≡ value (slice f (f + n) B)
+  value-first = ap (λ (x : ℕ). x % 2 ^ n) value-digits ∙ digits-mod (value (slice (f + n) t B)) low-lt
 
 -- the trailing zeros of a number, of n bits at most
 pub trailing-zeros : (k n : ℕ) (bs : List Bool) → n ≤ k → n ≤ length bs → min (trailingZeros k (value bs)) n ≡ zeros (take n bs)
@@ -94,6 +84,17 @@ zeros-beyond : (a b : List Bool) → length a ≤ zeros a → zeros (a ++ b) ≡
 zeros-beyond [] b h = omega arith
 zeros-beyond (true ∷ a) b h = absurd (omega arith)
 zeros-beyond (false ∷ a) b h = omega (arith, zeros-beyond a b (omega arith))
+
+-- bits that spell some number, and bits that spell 0
+pub some-one : (bs : List Bool) → (value bs ≡ 0 → ⊥) → zeros bs < length bs
+some-one [] h = absurd (h refl)
+some-one (true ∷ bs) h = omega arith
+some-one (false ∷ bs) h = omega (arith, some-one bs (λ e. h (omega arith)))
+
+pub zeros-of-zero : (bs : List Bool) → value bs ≡ 0 → zeros bs ≡ length bs
+zeros-of-zero [] e = refl
+zeros-of-zero (true ∷ bs) e = absurd (omega arith)
+zeros-of-zero (false ∷ bs) e = ap suc (zeros-of-zero bs (omega arith))
 
 module _ (B : List Bool) (j stop end : ℕ) (h : j ≤ stop) (k : stop ≤ end) (l : stop ≤ length B) where
   pub zeros-found : zeros (slice j stop B) < stop - j → zeros (slice j end B) ≡ zeros (slice j stop B)

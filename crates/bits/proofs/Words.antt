@@ -3,16 +3,17 @@ use mathlib.Core.Path.{_≡_, sym, ap, ap₂, _∙_}
 use mathlib.Core.Bool.{Bool}
 use mathlib.Core.List.{List, [], _∷_, _++_}
 use Prim.Native.Nat.{ℕ, zero, suc, _+_, _-_, _*_, _/_, _%_, _^_, _<_, _≤_, min}
-use native.Mathlib.Nat.{lt-of-lt-of-le}
+use native.Mathlib.Nat.{one-mul}
 use native.Mathlib.Omega.{arith}
-use lib.Pow.{pow-mono}
+use lib.Dec.{lit<}
+use lib.Pow.{shl-exact}
 use lib.Count.{trailingZeros}
 use lib.ListN.{length, getD, take, drop, length-take, length-drop}
-use lib.Seq.{slice, take-all, drop-length, take-at, take-append-add, drop-append-add}
+use lib.Seq.{slice, length-slice, take-all, take-at, take-append-add, drop-append-add}
 use Rattle.bits.specs.Bits.{numberBits, value, byteBits, zeros}
-use Rattle.bits.proofs.Digits.{length-number, value-bits, value-lt}
+use Rattle.bits.proofs.Digits.{length-number, value-bits}
 use Rattle.bits.proofs.Bytes.{length-byte-bits}
-use Rattle.bits.proofs.BitRuns.{value-end, slice-first, value-parts, value-from, trailing-zeros}
+use Rattle.bits.proofs.BitRuns.{value-end, slice-first, value-parts, value-from, trailing-zeros, some-one, zeros-of-zero, zeros-found, zeros-passed}
 
 slice-after : (p q : List Bool) (f t : ℕ) → slice (length p + f) (length p + t) (p ++ q) ≡ slice f t q
 slice-after p q f t = ap (drop (length p + f)) (take-append-add p q t) ∙ drop-append-add p (take t q) f
@@ -34,6 +35,13 @@ module _ (s : List ℕ) (i t : ℕ) (h : i < length s) (byte : getD s i 0 < 256)
       value-parts (byteBits s) (8 * i) 8 t l (omega (arith, length-byte-bits s))
       ∙ ap₂ (λ (x y : ℕ). x + 256 * value (slice y t (byteBits s))) (ap value (byte-at s i h) ∙ value-bits 8 (getD s i 0) byte) e
 
+-- the same with the lowest four bytes
+pub four-more : (s : List ℕ) (i t : ℕ) → i + 4 ≤ length s → 8 * i + 32 ≤ t
+    → value (slice (8 * i) t (byteBits s)) ≡ value (slice (8 * i) (8 * i + 32) (byteBits s)) + value (slice (8 * (i + 4)) t (byteBits s)) * 4294967296
+four-more s i t h l =
+    let e : 8 * i + 32 ≡ 8 * (i + 4) = omega arith in
+    omega (arith, value-parts (byteBits s) (8 * i) 32 t l (omega (arith, length-byte-bits s)), ap (λ (x : ℕ). value (slice x t (byteBits s))) e)
+
 pub word-bytes : (s : List ℕ) (i : ℕ) → i + 4 ≤ length s → ((j : ℕ) → getD s j 0 < 256)
     → value (slice (8 * i) (8 * i + 32) (byteBits s)) ≡ getD s i 0 + getD s (i + 1) 0 * 256 + getD s (i + 2) 0 * 65536 + getD s (i + 3) 0 * 16777216
 word-bytes s i h byte =
@@ -47,40 +55,61 @@ word-bytes s i h byte =
     let m3 = rw e3 at (byte-more s (i + 3) t (omega arith) (byte (i + 3)) (omega arith)) in
     omega (arith, value-end (byteBits s) t)
 
--- past the last byte
-pub value-past-end : (s : List ℕ) (t : ℕ) → 8 * length s ≤ t → 0 ≡ value (slice (8 * length s) t (byteBits s))
-value-past-end s t h =
-    let e : 8 * length s ≡ length (byteBits s) = sym (length-byte-bits s) in
-    ap value (sym (drop-length (byteBits s)) ∙ ap₂ drop (sym e) (sym (take-all t (byteBits s) (omega (arith, length-byte-bits s)))))
+-- nothing stands past the last byte
+pub none-past-end : (s : List ℕ) (f t : ℕ) → 8 * length s ≤ t → slice f t (byteBits s) ≡ slice f (8 * length s) (byteBits s)
+none-past-end s f t h =
+    let B = byteBits s in
+    ap (drop f) (take-all t B (omega (arith, length-byte-bits s)) ∙ sym (take-all (8 * length s) B (omega (arith, length-byte-bits s))))
 
--- at most six bytes leave room for one more
-pub last-room : (s : List ℕ) (i k : ℕ) → i < k → length s < i + 8 → value (slice (8 * k) (8 * i + 64) (byteBits s)) < 281474976710656
-last-room s i k h l =
-    let part = slice (8 * k) (8 * i + 64) (byteBits s) in
-    let n : length part ≤ 48 = simp (length-drop, length-take, length-byte-bits) (omega arith) in
-    lt-of-lt-of-le (value-lt part) (pow-mono {i = length part} {j = 48} n)
+-- a word of zeros, passed
+pub zero-word : (s : List ℕ) (i end : ℕ) → 8 * i + 64 ≤ end → end ≤ length s * 8 → value (slice (8 * i) (8 * i + 64) (byteBits s)) ≡ 0
+    → zeros (slice (8 * i) end (byteBits s)) ≡ 64 + zeros (slice (8 * i + 64) end (byteBits s))
+zero-word s i end h l e =
+    let B = byteBits s in
+    let t = 8 * i + 64 in
+    let long : t ≤ length B = omega (arith, length-byte-bits s) in
+    let z : 64 ≤ zeros (slice (8 * i) t B) = omega (arith, zeros-of-zero (slice (8 * i) t B) e, length-slice (8 * i) t B long) in
+    omega (arith, zeros-passed B (8 * i) t end (omega arith) h long (omega arith))
 
--- a word of eight bytes from two of four
-pub word-halves : (s : List ℕ) (i : ℕ) → i + 8 ≤ length s
-    → value (slice (8 * i) (8 * i + 64) (byteBits s))
-    ≡ value (slice (8 * i) (8 * i + 32) (byteBits s)) + value (slice (8 * (i + 4)) (8 * (i + 4) + 32) (byteBits s)) * 4294967296
-word-halves s i h =
-    let e : 8 * i + 32 ≡ 8 * (i + 4) = omega arith in
-    let g : 8 * i + 64 ≡ 8 * (i + 4) + 32 = omega arith in
-    let p = value-parts (byteBits s) (8 * i) 32 (8 * i + 64) (omega arith) (omega (arith, length-byte-bits s)) in
-    omega (arith, p, ap₂ (λ (x y : ℕ). value (slice x y (byteBits s))) e g)
-
--- the zeros of the bits from j to stop, in a word that begins with j's byte
-pub word-zeros : (s : List ℕ) (j stop w : ℕ) → j ≤ stop → stop ≤ length s * 8 → j % 8 + (stop - j) ≤ 64
-    → w ≡ value (slice (8 * (j / 8)) (8 * (j / 8) + 64) (byteBits s))
-    → min (trailingZeros 64 (w / 2 ^ (j % 8))) (stop - j) ≡ zeros (slice j stop (byteBits s))
-word-zeros s j stop w h l k e =
+-- a word that begins with j's byte, without the bits below j
+pub word-from : (s : List ℕ) (j w : ℕ) → j ≤ length s * 8 → w ≡ value (slice (8 * (j / 8)) (8 * (j / 8) + 64) (byteBits s))
+    → w / 2 ^ (j % 8) ≡ value (slice j (8 * (j / 8) + 64) (byteBits s))
+word-from s j w h e =
     let B = byteBits s in
     let t = 8 * (j / 8) + 64 in
     let at : 8 * (j / 8) + j % 8 ≡ j = omega arith in
-    let long : stop ≤ length B = omega (arith, length-byte-bits s) in
-    let v : w / 2 ^ (j % 8) ≡ value (slice j t B) =
-    ap (λ (x : ℕ). x / 2 ^ (j % 8)) e ∙ value-from B (8 * (j / 8)) (j % 8) t (omega arith) (omega arith) ∙ ap (λ (x : ℕ). value (slice x t B)) at in
-    ap (λ (x : ℕ). min (trailingZeros 64 x) (stop - j)) v
-    ∙ trailing-zeros 64 (stop - j) (slice j t B) (omega arith) (simp (length-drop, length-take) (omega arith))
-    ∙ ap zeros (slice-first B j stop t h (omega arith) long)
+    ap (λ (x : ℕ). x / 2 ^ (j % 8)) e
+    ∙ value-from B (8 * (j / 8)) (j % 8) t (omega arith) (omega (arith, length-byte-bits s))
+    ∙ ap (λ (x : ℕ). value (slice x t B)) at
+
+-- the trailing zeros z of what is left of it, of which n bits stand before `end`: the first 1 is one of these, or all of these are zeros
+module _ (s : List ℕ) (j n z end : ℕ) (h : j + n ≤ end) (l : end ≤ length s * 8) (k : j % 8 + n ≤ 64)
+    (e : z ≡ trailingZeros 64 (value (slice j (8 * (j / 8) + 64) (byteBits s)))) where
+  long : j + n ≤ length (byteBits s)
+  long = omega (arith, length-byte-bits s)
+
+  first-zeros : zeros (slice j (j + n) (byteBits s)) ≡ min z n
+  first-zeros =
+      let bs = slice j (8 * (j / 8) + 64) (byteBits s) in
+      let d : j + n - j ≡ n = omega arith in
+      ap zeros (sym (rw d at (slice-first (byteBits s) j (j + n) (8 * (j / 8) + 64) (omega arith) (omega arith) long)))
+      ∙ sym (trailing-zeros 64 n bs (omega arith) (simp (length-drop, length-take) (omega (arith, long))))
+      ∙ ap (λ (x : ℕ). min x n) (sym e)
+
+  pub word-found : z < n → zeros (slice j end (byteBits s)) ≡ z
+  word-found g = omega (arith, first-zeros, zeros-found (byteBits s) j (j + n) end (omega arith) h long (omega (arith, first-zeros)))
+
+  pub word-passed : n ≤ z → zeros (slice j end (byteBits s)) ≡ n + zeros (slice (j + n) end (byteBits s))
+  word-passed g = omega (arith, zeros-passed (byteBits s) j (j + n) end (omega arith) h long (omega (arith, first-zeros)))
+
+-- a 1 in it stands before its end
+pub one-inside : (s : List ℕ) (j : ℕ) → (value (slice j (8 * (j / 8) + 64) (byteBits s)) ≡ 0 → ⊥)
+    → trailingZeros 64 (value (slice j (8 * (j / 8) + 64) (byteBits s))) < 64 - j % 8
+one-inside s j some =
+    let bs = slice j (8 * (j / 8) + 64) (byteBits s) in
+    let few : length bs ≤ 64 - j % 8 = simp (length-drop, length-take) (omega arith) in
+    omega (arith, some-one bs some, trailing-zeros 64 (length bs) bs (omega arith) (omega arith) ∙ ap zeros (take-all (length bs) bs (omega arith)))
+
+-- 1, shifted by fewer places than a word has
+pub one-shifted : (n : ℕ) → n < 64 → 1 * 2 ^ n % 2 ^ 64 ≡ 2 ^ n
+one-shifted n h = shl-exact {a = 1} 1 n 64 (lit< tt) (omega arith) ∙ one-mul (2 ^ n)

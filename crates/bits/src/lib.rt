@@ -8,19 +8,11 @@
 // at the end.
 ghost use mathlib.Core.Path.{_≡_};
 ghost use mathlib.Core.Bool.{true, false, cond, _&&_};
-ghost use Prim.Native.Nat.{_+_, _-_, _*_, _%_, _^_, _<_, _≤_};
-ghost use lib.ListN.{length, getD, set};
+ghost use Prim.Native.Nat.{_+_, _-_, _*_, _/_, _%_, _^_, _<_, _≤_};
+ghost use lib.ListN.{length, set};
 ghost use lib.Seq.{slice, sets};
 ghost use Rattle.bits.specs.Bits.{byteBits, numberBits, value, zeros};
 ghost use Rattle.bits.specs.Laws.{BitLaws};
-
-// Bit b.
-pub fn bit(s: &[u8], b: usize) -> bool
-    requires { ⌜ b < length (now s) * 8 ⌝ }
-    ensures { λ r. ⌜ r ≡ getD (byteBits (now (s .entry))) b false ⌝ }
-{
-    (s[b / 8] >> (b % 8)) % 2 == 1
-}
 
 // Bit b becomes 1.
 pub fn set_bit(s: &mut [u8], b: usize)
@@ -50,18 +42,12 @@ pub fn write_bit(s: &mut [u8], b: usize, v: bool)
     }
 }
 
-// The number that the n bits from `at` on spell, lowest first.
+// The number that the n bits from `at` on spell, lowest first: what the word from there on has without the bits above them.
 pub fn number(s: &[u8], at: usize, n: usize) -> u32
     requires { ⌜ (n ≤ 31) × (at + n ≤ length (now s) * 8) × (at + n < 2 ^ 64) ⌝ }
     ensures { λ r. ⌜ r ≡ value (slice at (at + n) (byteBits (now (s .entry)))) ⌝ }
 {
-    let mut v: u32 = 0;
-    let mut i = n;
-    while 0 < i {
-        i -= 1;
-        v = v * 2 + one(bit(s, at + i));
-    }
-    v
+    (word_from(s, at) % (1 << n)) as u32
 }
 
 // The n lowest bits of v, written from bit `at` on, lowest first.
@@ -113,34 +99,52 @@ pub fn zero_run(s: &[u8], from: usize, end: usize) -> usize
 {
     let mut j = from;
     while j < end {
-        let stop = word_end(j, end);
-        j += zeros_in_word(s, j, stop);
-        if j < stop {
-            return j - from;
+        let word = word_from(s, j);
+        let zeros = usize::trailing_zeros(word) as usize;
+        if both(word != 0, zeros < end - j) {
+            return j + zeros - from;
         }
+        j = zero_words(s, j + word_left(j, end), end);
     }
     j - from
 }
 
-// Where the word of eight bytes that begins with j's byte ends, or `end` if that comes first.
-fn word_end(j: usize, end: usize) -> usize
+// Where the whole words of zeros from j on end; j begins a byte, or is `end`. A word costs a load and a test: no address waits for its value.
+fn zero_words(s: &[u8], j: usize, end: usize) -> usize
+    requires { ⌜ (j ≤ end) × (end ≤ length (now s) * 8) × (j < end → j % 8 ≡ 0) ⌝ }
+    ensures { λ r.
+        ⌜ (j ≤ r) × (r ≤ end)
+        × (zeros (slice j end (byteBits (now (s .entry)))) ≡ (r - j) + zeros (slice r end (byteBits (now (s .entry))))) ⌝ }
+{
+    let words = (end - j) / 64;
+    let mut n = 0;
+    while n < words {
+        if whole_word(s, j / 8 + 8 * n) != 0 {
+            return j + 64 * n;
+        }
+        n += 1;
+    }
+    j + 64 * n
+}
+
+// How many bits from j on the word of eight bytes that begins with j's byte has before `end`.
+fn word_left(j: usize, end: usize) -> usize
     requires { ⌜ j < end ⌝ }
-    ensures { λ r. ⌜ (j < r) × (r ≤ end) × (j % 8 + (r - j) ≤ 64) ⌝ }
+    ensures { λ r. ⌜ (0 < r) × (j + r ≤ end) × (j % 8 + r ≤ 64) × (j + r < end → (j + r) % 8 ≡ 0) ⌝ }
 {
     let left = 64 - j % 8;
     if end - j < left {
-        return end;
+        return end - j;
     }
-    j + left
+    left
 }
 
-// The same as `zero_run` within that word: its trailing zero bits, once the bits below j are shifted out. A 1 from `stop` on does not count.
-fn zeros_in_word(s: &[u8], j: usize, stop: usize) -> usize
-    requires { ⌜ (j ≤ stop) × (stop ≤ length (now s) * 8) × (j % 8 + (stop - j) ≤ 64) ⌝ }
-    ensures { λ r. ⌜ (r ≡ zeros (slice j stop (byteBits (now (s .entry))))) × (j + r ≤ stop) ⌝ }
+// That word without the bits below j. `end` plays no part: a 1 past it is there as well.
+fn word_from(s: &[u8], j: usize) -> usize
+    requires { ⌜ j ≤ length (now s) * 8 ⌝ }
+    ensures { λ r. ⌜ r ≡ value (slice j (8 * (j / 8) + 64) (byteBits (now (s .entry)))) ⌝ }
 {
-    let zeros = usize::trailing_zeros(word64(s, j / 8) >> (j % 8)) as usize;
-    if zeros < stop - j { zeros } else { stop - j }
+    word64(s, j / 8) >> (j % 8)
 }
 
 // The word of the eight bytes from byte i on, lowest byte first. Bytes past the slice's end count as 0.
@@ -148,24 +152,53 @@ fn word64(s: &[u8], i: usize) -> usize
     requires { ⌜ i ≤ length (now s) ⌝ }
     ensures { λ r. ⌜ r ≡ value (slice (8 * i) (8 * i + 64) (byteBits (now (s .entry)))) ⌝ }
 {
-    if s.len() - i < 8 {
-        return last_word(s, i);
+    if 8 <= s.len() - i {
+        return whole_word(s, i);
     }
+    last_word(s, i)
+}
+
+// The same where eight bytes are left.
+fn whole_word(s: &[u8], i: usize) -> usize
+    requires { ⌜ i + 8 ≤ length (now s) ⌝ }
+    ensures { λ r. ⌜ r ≡ value (slice (8 * i) (8 * i + 64) (byteBits (now (s .entry)))) ⌝ }
+{
     word32(s, i) + word32(s, i + 4) * 4294967296
 }
 
-// The same where fewer than eight bytes are left.
+// The same where fewer than eight bytes are left: the lowest four if there are so many, and up to three more. A loop over them would be unrolled wherever
+// this is inlined.
 fn last_word(s: &[u8], i: usize) -> usize
     requires { ⌜ (i ≤ length (now s)) × (length (now s) < i + 8) ⌝ }
     ensures { λ r. ⌜ r ≡ value (slice (8 * i) (8 * i + 64) (byteBits (now (s .entry)))) ⌝ }
 {
-    let mut word = 0;
-    let mut k = s.len();
-    while i < k {
-        k -= 1;
-        word = word * 256 + wide(s[k]);
+    let left = s.len() - i;
+    let high = last_bytes(s, i + left / 4 * 4);
+    if left < 4 {
+        return high;
     }
-    word
+    word32(s, i) + high * 4294967296
+}
+
+// The number that the bytes from byte i on spell, where fewer than four are left: the lowest two if there are so many, and one more or none.
+fn last_bytes(s: &[u8], i: usize) -> usize
+    requires { ⌜ (i ≤ length (now s)) × (length (now s) < i + 4) ⌝ }
+    ensures { λ r. ⌜ (r ≡ value (slice (8 * i) (8 * length (now (s .entry))) (byteBits (now (s .entry))))) × (r < 2 ^ 24) ⌝ }
+{
+    let left = s.len() - i;
+    let high = last_byte(s, i + left / 2 * 2);
+    if left < 2 {
+        return high;
+    }
+    wide(s[i]) + wide(s[i + 1]) * 256 + high * 65536
+}
+
+// The same where at most one is left.
+fn last_byte(s: &[u8], i: usize) -> usize
+    requires { ⌜ (i ≤ length (now s)) × (length (now s) < i + 2) ⌝ }
+    ensures { λ r. ⌜ (r ≡ value (slice (8 * i) (8 * length (now (s .entry))) (byteBits (now (s .entry))))) × (r < 256) ⌝ }
+{
+    if i < s.len() { wide(s[i]) } else { 0 }
 }
 
 // The word of the four bytes from byte i on, lowest byte first.

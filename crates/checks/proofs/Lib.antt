@@ -1,3 +1,4 @@
+pub mod Carries
 pub mod Totals
 pub mod Sums
 pub mod Agree

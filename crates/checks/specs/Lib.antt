@@ -1,4 +1,5 @@
 pub mod Words
+pub mod Sums
 pub mod Columns
 pub mod Cross
 pub mod Maps

@@ -9,14 +9,20 @@
 // and by byte columns as document 000 has it; `CheckLaws` says that they agree on every block. The product
 // uses the words.
 ghost use mathlib.Core.Path.{_≡_};
-ghost use Prim.Native.Nat.{_<_};
-ghost use Rattle.checks.specs.Words.{foldBytes, zoneCheck};
+ghost use Prim.Native.Nat.{_+_, _-_, _%_, _^_, _<_, _≤_};
+ghost use lib.ListN.{length};
+ghost use Rattle.checks.specs.Words.{addCarry, foldBytes, zoneCheck};
+ghost use Rattle.checks.specs.Sums.{sumFrom};
 ghost use Rattle.checks.specs.Columns.{noSums, added, foldColumns, columnCheck};
 ghost use Rattle.checks.specs.Cross.{amount};
 ghost use Rattle.checks.specs.Laws.{CheckLaws};
 
-// The zone check of a block, by 32-bit words from the last one down. The sum and the carry above its 32 bits are one
-// number.
+// How many bytes' words are added up before their carries are: the sum of so many stays far below 2^64.
+const CHUNK: usize = 4096;
+
+// The zone check of a block, by 32-bit words from the last one down. To add with the carry is to add modulo 2^32 - 1, so the carries may
+// wait: a chunk of words is added up plainly, and its carries are added after it. Before word 0 they are added a second time, since the first
+// may carry again. The carry out of word 0 is dropped.
 pub fn zone_check(block: &[u8]) -> u8
     ensures { λ r. ⌜ r ≡ zoneCheck (now (block .entry)) ⌝ }
 {
@@ -26,12 +32,35 @@ pub fn zone_check(block: &[u8]) -> u8
         return 0;
     }
     while 4 < i {
-        i -= 4;
-        t = t % 4294967296 + t / 4294967296 + bits::word32(block, i);
+        let from = bits::minus(i, CHUNK + 4) + 4;
+        t = add_carry(t, word_sum(block, from, i));
+        i = from;
     }
     let word = bits::word32(block, 0);
     let first = word - bits::wide(block[0]);
-    fold_bytes(t % 4294967296 + t / 4294967296 + first)
+    fold_bytes(add_carry(add_carry(t, 0), first))
+}
+
+// The plain sum of the words from byte `from` to byte `to`: what the sum from `from` on has over that from `to` on.
+fn word_sum(block: &[u8], from: usize, to: usize) -> usize
+    requires { ⌜ (from ≤ to) × (to ≤ from + 4096) × (to ≤ length (now block)) × ((to - from) % 4 ≡ 0) ⌝ }
+    ensures { λ r. ⌜ (sumFrom (now (block .entry)) from ≡ sumFrom (now (block .entry)) to + r) × (r < 2 ^ 43) ⌝ }
+{
+    let mut t = 0;
+    let mut i = from;
+    while i < to {
+        t += bits::word32(block, i);
+        i += 4;
+    }
+    t
+}
+
+// The sum's 32 bits and the carries above them, added, and w.
+fn add_carry(t: usize, w: usize) -> usize
+    requires { ⌜ w < 2 ^ 43 ⌝ }
+    ensures { λ r. ⌜ r ≡ addCarry t w ⌝ }
+{
+    t % 4294967296 + t / 4294967296 + w
 }
 
 // The exclusive-or of the four lowest bytes.

@@ -38,6 +38,10 @@ pub apart-append : (at mid end : ℕ) (ps qs : List Pair) → Apart at mid ps �
 apart-append at mid end [] qs j k = apart-from at mid end qs j k
 apart-append at mid end (p ∷ ps) qs j k = (j .0, j .1, apart-append (p .start + p .len) mid end ps qs (j .2) k)
 
+pub apart-rest : (at end : ℕ) (ps qs : List Pair) → Apart at end (ps ++ qs) → Apart at end qs
+apart-rest at end [] qs k = k
+apart-rest at end (p ∷ ps) qs k = apart-from at (p .start + p .len) end qs (omega (arith, k .0)) (apart-rest (p .start + p .len) end ps qs (k .2))
+
 -- each pair of the list lies within the stretch
 pub apart-at : {q : Pair} {i : ℕ} {qs : List Pair} (at end : ℕ) → At q i qs → Apart at end qs → (at ≤ q .start) × (0 < q .len) × (q .start + q .len ≤ end)
 apart-at {q} {i} at end (first {qs = qs}) k = (k .0, k .1, apart-le (q .start + q .len) end qs (k .2))

@@ -1,17 +1,19 @@
--- Pairs that lie apart share no address, so their counts one by one are the count of all: that is at most the stretch's length.
+-- Pairs that lie apart share no address, so their counts one by one are the count of all: that is at most the stretch's length. They ascend, so
+-- where one of them lies past the stretch all that follow do.
 use mathlib.Core.Path.{_≡_, refl, sym, ap, _∙_}
 use mathlib.Core.Bool.{false, cond}
-use mathlib.Core.List.{List, [], _∷_}
+use mathlib.Core.List.{List, [], _∷_, _++_}
 use Prim.Native.Nat.{ℕ, zero, suc, _+_, _*_, _<_, _≤_}
 use native.Mathlib.Nat.{mul-le-mul-right}
 use native.Mathlib.Omega.{arith}
 use lib.Dec.{leb, ltb}
-use borrow.Author.Tests.{lt-leb, ltb-true}
-use Rattle.bits.proofs.Tests.{by-test, both}
+use lib.ListN.{length}
+use borrow.Author.Tests.{lt-leb, le-ltb, ltb-true}
+use Rattle.bits.proofs.Tests.{by-test, both, and-with-false}
 use Rattle.model.specs.Chain.{Pair}
-use Rattle.listing.proofs.Ascend.{Apart}
-use Rattle.sweep.specs.Sweep.{inPair, covers, coveredCount, pairCounts}
-use Rattle.sweep.proofs.SweptOn.{counted-none, count-most}
+use Rattle.listing.proofs.Ascend.{Apart, apart-le}
+use Rattle.sweep.specs.Sweep.{inPair, covers, sweptBytes, coveredCount, pairCounts}
+use Rattle.sweep.proofs.SweptOn.{counted-none, count-most, SweptSoFar, swept-starts, part-swept}
 
 module _ (unit : ℕ) where
   -- no address before the first pair is covered
@@ -42,3 +44,36 @@ module _ (unit : ℕ) where
 
   pub counts-fit : (at end : ℕ) (qs : List Pair) → Apart at end qs → (a n : ℕ) → pairCounts unit qs a n ≤ n
   counts-fit at end qs k a n = omega (arith, counts-apart at end qs k a n, count-most unit qs a n)
+
+  -- nor is one after the last
+  none-after : (at end : ℕ) (qs : List Pair) → Apart at end qs → (a : ℕ) → end * unit ≤ a → covers unit qs a ≡ false
+  none-after at end [] k a h = refl
+  none-after at end (q ∷ qs) k a h =
+      let l : (q .start + q .len) * unit ≤ end * unit = mul-le-mul-right unit (apart-le (q .start + q .len) end qs (k .2)) in
+      rw (le-ltb a ((q .start + q .len) * unit) (omega arith), and-with-false (leb (q .start * unit) a)) (none-after (q .start + q .len) end qs (k .2) a h)
+
+  -- a stretch of which no address is covered
+  swept-nothing : (qs : List Pair) (fill a : ℕ) (image : List ℕ) → ((x : ℕ) → a ≤ x → x < a + length image → covers unit qs x ≡ false) → sweptBytes unit qs fill a image ≡ image
+  swept-nothing qs fill a [] h = refl
+  swept-nothing qs fill a (b ∷ bs) h =
+      rw (h a (omega arith) (omega arith)) (ap (λ (r : List ℕ). b ∷ r) (swept-nothing qs fill (suc a) bs (λ x l u. h x (omega arith) (omega arith))))
+
+  counted-nothing : (qs : List Pair) (a n : ℕ) → ((x : ℕ) → a ≤ x → x < a + n → covers unit qs x ≡ false) → coveredCount unit qs a n ≡ 0
+  counted-nothing qs a zero h = refl
+  counted-nothing qs a (suc n) h = rw (h a (omega arith) (omega arith)) (omega (arith, counted-nothing qs (suc a) n (λ x l u. h x (omega arith) (omega arith))))
+
+  -- a walk along pairs: those that end before the stretch may be left out, and once it has come past the stretch all is swept
+  pub swept-later : (first fill : ℕ) (old : List ℕ) {whole : List Pair} (early rest : List Pair) → whole ≡ early ++ rest
+      → (at end : ℕ) → Apart at end early → end * unit ≤ first → SweptSoFar unit first fill old old 0 whole rest
+  swept-later first fill old {whole} early rest e at end k h =
+      let none : (x : ℕ) → first ≤ x → x < first + length old → covers unit early x ≡ false = λ x l u. none-after at end early k x (omega arith) in
+      part-swept (swept-starts unit first fill old {whole = whole} {rest = whole} refl) early rest e
+      (sym (counts-apart at end early k first (length old) ∙ counted-nothing early first (length old) none)) (sym (swept-nothing early fill first old none))
+
+  pub swept-past : {first fill : ℕ} {old new : List ℕ} {count : ℕ} {whole rest : List Pair} → SweptSoFar unit first fill old new count whole rest
+      → (at end : ℕ) → Apart at end rest → first + length old ≤ at * unit
+      → (new ≡ sweptBytes unit whole fill first old) × (count ≡ pairCounts unit whole first (length old))
+  swept-past {first} {fill} {old} {new} {rest = rest} s at end k h = (
+    sym (swept-nothing rest fill first new (λ x l u. none-before at end rest k x (omega (arith, s .kept)))) ∙ s .bytes,
+    omega (arith, s .counts, counts-apart at end rest k first (length old), counted-nothing rest first (length old) (λ x l u. none-before at end rest k x (omega arith))),
+  )

@@ -7,13 +7,7 @@ use Prim.Native.Nat.{ℕ, zero, suc, _+_, _<_, _≤_}
 use native.Mathlib.Omega.{arith}
 use lib.ListN.{length}
 use Rattle.bits.proofs.Tests.{by-test}
-use Rattle.geometry.specs.declared.Geometry.{Geometry}
 use Rattle.model.specs.Chain.{Pair}
-use Rattle.walk.specs.declared.Walk.{Walk}
-use Rattle.walk.specs.declared.Step.{Step}
-use Rattle.walk.specs.Remaining.{remaining, Advances}
-use Rattle.walk.specs.HeldBy.{linePair, heldLines}
-use Rattle.walk.proofs.HeldLines.{held-step}
 use Rattle.sweep.specs.Sweep.{inPair, covers, sweptBytes, coveredCount, pairCounts}
 
 covered-by-either : (x y : Bool) (fill b : ℕ) → cond (x || y) fill b ≡ cond y fill (cond x fill b)
@@ -81,33 +75,23 @@ swept-ends {unit} {first} {fill} {old} {new} s e = (
   omega (arith, s .counts, ap (λ (r : List Pair). pairCounts unit r first (length old)) e),
 )
 
--- one line of a walk more: its pair, if the line is the holder's
-module _ (h : ℕ) {m : List ℕ} {g : Geometry} {w : Walk} {r : Step} (a : Advances m g w r) (to : ℕ) (u : to ≤ g .zones) (k : w .zone < to)
-    {unit first fill : ℕ} {old new : List ℕ} {count : ℕ} {whole : List Pair} (s : SweptSoFar unit first fill old new count whole (heldLines h (remaining m g to w)))
-    {n : ℕ} (en : n ≡ pairCounts unit (linePair h (r .line)) first (length new)) where
-  abbrev this : List Pair
-  this = linePair h (r .line)
-
-  abbrev others : List Pair
-  others = heldLines h (remaining m g to (r .after))
-
-  step : heldLines h (remaining m g to w) ≡ this ++ others
-  step = held-step h a to u k
-
+-- one part more
+module _ {unit first fill : ℕ} {old new : List ℕ} {count : ℕ} {whole rest : List Pair} (s : SweptSoFar unit first fill old new count whole rest)
+    (this others : List Pair) (parts : rest ≡ this ++ others) {n : ℕ} (en : n ≡ pairCounts unit this first (length new)) where
   counts-on : count + n + pairCounts unit others first (length old) ≡ pairCounts unit whole first (length old)
   counts-on =
       let here = en ∙ ap (pairCounts unit this first) (s .kept) in
-      let both = ap (λ (x : List Pair). pairCounts unit x first (length old)) step ∙ counts-append unit this others first (length old) in
+      let both = ap (λ (x : List Pair). pairCounts unit x first (length old)) parts ∙ counts-append unit this others first (length old) in
       omega (arith, s .counts, here, both)
 
-  pub line-inside : count + n ≤ pairCounts unit whole first (length old)
-  line-inside = omega (arith, counts-on)
+  pub part-inside : count + n ≤ pairCounts unit whole first (length old)
+  part-inside = omega (arith, counts-on)
 
-  pub line-swept : {next : List ℕ} → next ≡ sweptBytes unit this fill first new → SweptSoFar unit first fill old next (count + n) whole others
-  line-swept e = record {
+  pub part-swept : {next : List ℕ} → next ≡ sweptBytes unit this fill first new → SweptSoFar unit first fill old next (count + n) whole others
+  part-swept e = record {
     kept = ap length e ∙ swept-length unit this fill first new ∙ s .kept;
     bytes =
         ap (sweptBytes unit others fill first) e ∙ sym (swept-append unit this others fill first new)
-        ∙ sym (ap (λ (x : List Pair). sweptBytes unit x fill first new) step) ∙ s .bytes;
+        ∙ sym (ap (λ (x : List Pair). sweptBytes unit x fill first new) parts) ∙ s .bytes;
     counts = counts-on;
   }

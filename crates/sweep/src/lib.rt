@@ -6,9 +6,11 @@ use geometry::refuse;
 use map::Checked;
 ghost use mathlib.Core.Path.{_≡_};
 ghost use mathlib.Core.List.{_++_};
-ghost use Prim.Native.Nat.{_+_, _-_, _≤_, min};
+ghost use Prim.Native.Nat.{_+_, _-_, _/_, _≤_, min};
 ghost use lib.Dec.{ltb};
 ghost use lib.ListN.{length, take, drop, replicate};
+ghost use Rattle.geometry.specs.Accepted.{AcceptedGeometry};
+ghost use Rattle.geometry.specs.Places.{zoneOf};
 ghost use Rattle.map.specs.Accepted.{AcceptedMap};
 ghost use Rattle.walk.specs.HeldBy.{pairIf, heldFrom};
 ghost use Rattle.sweep.specs.Sweep.{sweptBytes, pairCounts, heldSweep, objectSweep, freeSweep, Sweeps};
@@ -85,8 +87,28 @@ fn ends_past(g: Geometry, first: u64, n: usize) -> bool
     g.size - n < first as usize
 }
 
-// Sweeps a holder's fragments of all zones; answers how many bytes were written.
+// Sweeps a holder's fragments of all zones; answers how many bytes were written. Only free fragments are chained, so an object's are looked
+// for among all.
 fn sweep_held(
+    map: &[u8],
+    g: Geometry,
+    holder: u32,
+    image: &mut [u8],
+    first: usize,
+    fill: u8,
+) -> usize
+    requires { ⌜ AcceptedMap (now map) g × (first + length (now image) ≤ g .size) ⌝ }
+    ensures bytes { λ r. ⌜ now (image .exit) ≡ sweptBytes (g .unit) (heldFrom g holder (now (map .entry)) 0 (g .zones)) fill first (now (image .entry)) ⌝ }
+    ensures count { λ r. ⌜ r ≡ pairCounts (g .unit) (heldFrom g holder (now (map .entry)) 0 (g .zones)) first (length (now (image .entry))) ⌝ }
+{
+    if holder == 0 {
+        return sweep_chains(map, g, image, first, fill);
+    }
+    sweep_all(map, g, holder, image, first, fill)
+}
+
+// The same by a walk over all fragments.
+fn sweep_all(
     map: &[u8],
     g: Geometry,
     holder: u32,
@@ -117,6 +139,37 @@ fn sweep_held(
         w = s.after;
     }
     count
+}
+
+// The same of free space, along the chains: from the zone where the stretch starts. Spans ascend, so the first one past the stretch ends the sweep.
+fn sweep_chains(map: &[u8], g: Geometry, image: &mut [u8], first: usize, fill: u8) -> usize
+    requires { ⌜ AcceptedMap (now map) g × (first + length (now image) ≤ g .size) ⌝ }
+    ensures bytes { λ r. ⌜ now (image .exit) ≡ sweptBytes (g .unit) (heldFrom g 0 (now (map .entry)) 0 (g .zones)) fill first (now (image .entry)) ⌝ }
+    ensures count { λ r. ⌜ r ≡ pairCounts (g .unit) (heldFrom g 0 (now (map .entry)) 0 (g .zones)) first (length (now (image .entry))) ⌝ }
+{
+    let zones = g.zones;
+    let unit = g.unit;
+    let end = first + image.len();
+    let mut count = 0;
+    let mut w = chain::from_zone(map, g, zone_at(g, first));
+    while w.zone < zones {
+        let s = chain::next(map, g, w);
+        let start = s.start;
+        if end <= start.0 as usize * unit {
+            return count;
+        }
+        count += sweep_line(true, start, s.len, unit, image, first, fill);
+        w = s.after;
+    }
+    count
+}
+
+// The zone of a disc address; past the last zone for one that ends the map.
+fn zone_at(g: Geometry, address: usize) -> usize
+    requires { ⌜ AcceptedGeometry g × (address ≤ g .size) ⌝ }
+    ensures { λ r. ⌜ (r ≡ zoneOf g (address / g .unit)) × (r ≤ g .zones) ⌝ }
+{
+    g.zone_of(DiscBit((address / g.unit) as u32))
 }
 
 // Fills a pair's part of the stretch at once, if the pair is wanted; answers how many bytes that is.

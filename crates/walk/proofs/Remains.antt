@@ -58,7 +58,7 @@ module _ {g : Geometry} {z : ℕ} {b : List ℕ} (s : SoundZone g z b) where
   block : ZoneBlock g b (endBit g)
   block = record { numbers = s .numbers; sized = s .sized; ends = refl }
 
-  zone-read : readFrom (g .idlen) (firstBit z) (endBit g) (onward 8 (linkIn b)) (byteBits b) ≡ some (entriesIn g z b)
+  pub zone-read : readFrom (g .idlen) (firstBit z) (endBit g) (onward 8 (linkIn b)) (byteBits b) ≡ some (entriesIn g z b)
   zone-read =
       let p = zone-tests g z b (entriesIn g z b) (s .kept) in
       let a = alloc-all block z (firstBit z) refl (first-low z) (first-high z) in

@@ -2,21 +2,30 @@
 //! growing size, and prints the times as Markdown tables. The reference is
 //! the yardstick: it is written to be plain, with lists on the heap.
 //!
+//! A last table is about the sweep of free space alone, against two programs
+//! that do nothing else.
+//!
 //! `--quick` makes one round, to see that all of it runs. `--before FILE.so`
 //! measures an earlier build of the product too, and adds a table of the two.
+//! `--sweeps` leaves out all tables but the last.
 
+mod discs;
+mod machine;
 mod maps;
 mod sides;
+mod sweeps;
+mod table;
 mod timing;
 
 use std::env;
-use std::fs;
-use std::process::{Command, ExitCode};
+use std::process::ExitCode;
 use std::time::Duration;
 
+use machine::machine;
 use maps::{Size, NAMES, ZONES};
 use product::Calls;
 use sides::{sides, Side};
+use table::print_sweeps;
 use timing::{agree, Lowest};
 
 /// How much is measured. There are several passes over all calls, so that a
@@ -37,15 +46,34 @@ const QUICK: Plan = Plan {
     time: Duration::ZERO,
 };
 
+/// What the arguments ask for.
+struct Wanted {
+    plan: Plan,
+    /// The earlier build, if one is named.
+    before: Option<Calls>,
+    only_sweeps: bool,
+}
+
 fn main() -> ExitCode {
-    let (plan, before) = match arguments() {
-        Ok(known) => known,
+    let wanted = match arguments() {
+        Ok(wanted) => wanted,
         Err(reason) => {
             eprintln!("{reason}");
             return ExitCode::from(2);
         }
     };
 
+    let good = (wanted.only_sweeps || print_calls(wanted.before, &wanted.plan))
+        && print_sweeps(wanted.before, &wanted.plan);
+    if good {
+        ExitCode::SUCCESS
+    } else {
+        ExitCode::FAILURE
+    }
+}
+
+/// Measures all calls and prints their tables; false where two sides differ.
+fn print_calls(before: Option<Calls>, plan: &Plan) -> bool {
     let compared = before.is_some();
     let sides = sides(before);
     let sizes: Vec<Size> = ZONES.into_iter().map(Size::new).collect();
@@ -53,38 +81,47 @@ fn main() -> ExitCode {
         for (name, cases) in NAMES.iter().zip(&size.cases) {
             if !cases.iter().all(|case| agree(&sides, case)) {
                 println!("{} zones, {name}: the answers differ", size.zones);
-                return ExitCode::FAILURE;
+                return false;
             }
         }
     }
 
-    let times = measure(&sides, &sizes, &plan);
-    print_how(&times, &plan);
+    let times = measure(&sides, &sizes, plan);
+    print_how(&times, plan);
     print_ratios(&sizes, &times);
     print_growth(&sizes, &times);
     if compared {
         print_change(&sizes, &times);
     }
-    ExitCode::SUCCESS
+    println!();
+    true
 }
 
-/// What the arguments ask for: how much, and the earlier build if one is named.
-fn arguments() -> Result<(Plan, Option<Calls>), String> {
-    let (mut plan, mut before) = (FULL, None);
+/// Reads the arguments.
+fn arguments() -> Result<Wanted, String> {
+    let mut wanted = Wanted {
+        plan: FULL,
+        before: None,
+        only_sweeps: false,
+    };
     let mut words = env::args().skip(1);
     while let Some(word) = words.next() {
         match word.as_str() {
-            "--quick" => plan = QUICK,
+            "--quick" => wanted.plan = QUICK,
+            "--sweeps" => wanted.only_sweeps = true,
             "--before" => {
                 let file = words.next().ok_or("--before is followed by no file")?;
                 // SAFETY: whoever names the file takes a build that has the
                 // signatures of today, as the README asks.
-                before = Some(unsafe { Calls::open(&file) }?);
+                wanted.before = Some(unsafe { Calls::open(&file) }?);
             }
-            _ => return Err("the arguments known are --quick and --before FILE.so".to_string()),
+            _ => {
+                let known = "the arguments known are --quick, --sweeps and --before FILE.so";
+                return Err(known.to_string());
+            }
         }
     }
-    Ok((plan, before))
+    Ok(wanted)
 }
 
 /// The lowest times by size and call.
@@ -121,34 +158,8 @@ fn print_how(times: &[Vec<Lowest>], plan: &Plan) {
          3 without a gap."
     );
     println!();
-    println!(
-        "Processor: {}. Compiler: {}. Load at the end: {}. The reference has overflow checks.",
-        processor(),
-        compiler(),
-        load()
-    );
+    println!("{} The reference has overflow checks.", machine());
     println!();
-}
-
-fn processor() -> String {
-    let text = fs::read_to_string("/proc/cpuinfo").unwrap_or_default();
-    text.lines()
-        .find(|line| line.starts_with("model name"))
-        .and_then(|line| line.split_once(": "))
-        .map_or("unknown".to_string(), |(_, name)| name.to_string())
-}
-
-fn compiler() -> String {
-    match Command::new("rustc").arg("--version").output() {
-        Ok(output) => String::from_utf8_lossy(&output.stdout).trim().to_string(),
-        Err(_) => "unknown".to_string(),
-    }
-}
-
-/// The load tells how far the figures can be trusted.
-fn load() -> String {
-    let text = fs::read_to_string("/proc/loadavg").unwrap_or_default();
-    text.split(' ').next().unwrap_or("unknown").to_string()
 }
 
 /// The head of a table whose last columns are the calls.

@@ -72,16 +72,7 @@ impl Size {
     /// has: a processor learns the branches of one small map by heart, and
     /// the rounds would then show a speed that no single call has.
     pub fn new(nzones: u8) -> Size {
-        let record = DiscRecord {
-            log2secsize: 10,
-            idlen: 15,
-            log2bpmb: 10,
-            nzones,
-            zone_spare: ZONE_SPARE,
-            // Every bit of the map stands for a part of the disc.
-            disc_size: (nzones as u32 * (8_192 - ZONE_SPARE as u32) - 480) << 10,
-        };
-        let geometry = Geometry::accept(&record).expect("a record inside its ranges");
+        let (record, geometry) = record(nzones);
         let mut size = Size {
             zones: geometry.nzones,
             map_bytes: geometry.nzones * geometry.sector_size,
@@ -115,6 +106,27 @@ impl Size {
     pub fn used_percent(&self) -> usize {
         100 - 100 * self.free_bits / (self.maps() * self.disc_bits)
     }
+}
+
+/// The record of a disc with so many zones.
+fn record(nzones: u8) -> (DiscRecord, Geometry) {
+    let record = DiscRecord {
+        log2secsize: 10,
+        idlen: 15,
+        log2bpmb: 10,
+        nzones,
+        zone_spare: ZONE_SPARE,
+        // Every bit of the map stands for a part of the disc.
+        disc_size: (nzones as u32 * (8_192 - ZONE_SPARE as u32) - 480) << 10,
+    };
+    let geometry = Geometry::accept(&record).expect("a record inside its ranges");
+    (record, geometry)
+}
+
+/// A map of the largest size.
+pub fn hard_disc(seed: u64) -> Vec<u8> {
+    let (record, geometry) = record(ZONES[ZONES.len() - 1]);
+    make_map(&record, &geometry, seed, Numbers::ByZone)
 }
 
 /// The same fragments whatever the numbers, if the seed is the same.

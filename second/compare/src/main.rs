@@ -1,6 +1,6 @@
 //! Runs many calls through the product and through the reference; every
 //! answer and every lent byte must agree, and so must the geometry of every
-//! map.
+//! map. Sweeps of free space are made by the two programs of `sweep` too.
 //!
 //! SEEDS names the seeds: `N` for 0 to N-1, or `A..B` for A to B-1. If TRACE
 //! is set, each call is named before it is made, to find one that never
@@ -81,6 +81,29 @@ fn run_product(case: &Case, shift: usize) -> (Outcome, bool) {
     (outcome, kept)
 }
 
+type SweepFree = fn(&[u8], &mut [u8], u64, u8) -> Result<u64, sweep::Refusal>;
+
+/// The programs that do nothing but sweep free space.
+const SWEEPS: [(&str, SweepFree); 2] = [
+    ("simple", sweep::simple::sweep_free),
+    ("fast", sweep::fast::sweep_free),
+];
+
+/// Runs a sweep of free space through one of those.
+fn run_sweep(case: &Case, program: SweepFree) -> Outcome {
+    let mut image = case.image.clone();
+    let answer = program(&case.map, &mut image, case.wide, case.fill);
+    let (number, zone) = answer.err().unwrap_or((0, 0));
+    Outcome {
+        number,
+        zone,
+        values: vec![answer.unwrap_or(0)],
+        map: case.map.clone(),
+        list: case.list.clone(),
+        image,
+    }
+}
+
 /// What the reference's own check tells of a map's record.
 fn geometry(map: &[u8]) -> Told {
     match check(map) {
@@ -109,17 +132,22 @@ struct Difference {
     text: String,
 }
 
+/// How many bytes are lent to a case.
+fn lent(case: &Case) -> usize {
+    case.map.len() + 4 * case.list.len() + case.image.len()
+}
+
 /// The first place where two slices differ.
 fn first_difference<T: PartialEq + std::fmt::Debug>(
     name: &str,
-    ours: &[T],
-    theirs: &[T],
+    names: [&str; 2],
+    [ours, theirs]: [&[T]; 2],
 ) -> String {
     for index in 0..ours.len() {
         if ours[index] != theirs[index] {
             return format!(
-                "  {name} differs first at {index}: reference {:?}, product {:?}\n",
-                ours[index], theirs[index]
+                "  {name} differs first at {index}: {} {:?}, {} {:?}\n",
+                names[0], ours[index], names[1], theirs[index]
             );
         }
     }
@@ -130,8 +158,8 @@ fn describe(
     seed: u64,
     step: u64,
     case: &Case,
-    ours: &Outcome,
-    theirs: &Outcome,
+    names: [&str; 2],
+    outcomes: [&Outcome; 2],
     kept: bool,
 ) -> String {
     let mut text = format!("seed {seed}, call {step} of it: {}\n", case.call.name());
@@ -148,15 +176,15 @@ fn describe(
     if case.call == Call::Place {
         text += &format!("  list {:?}\n", case.list);
     }
-    for (who, outcome) in [("reference", ours), ("product", theirs)] {
+    for (who, outcome) in names.into_iter().zip(outcomes) {
         text += &format!(
             "  {who}: number {}, zone {}, values {:?}\n",
             outcome.number, outcome.zone, outcome.values
         );
     }
-    text += &first_difference("map", &ours.map, &theirs.map);
-    text += &first_difference("list", &ours.list, &theirs.list);
-    text += &first_difference("image", &ours.image, &theirs.image);
+    text += &first_difference("map", names, outcomes.map(|outcome| &outcome.map[..]));
+    text += &first_difference("list", names, outcomes.map(|outcome| &outcome.list[..]));
+    text += &first_difference("image", names, outcomes.map(|outcome| &outcome.image[..]));
     if !kept {
         text += "  the product wrote outside what it was lent\n";
     }
@@ -199,8 +227,26 @@ impl Tally {
         let (theirs, kept) = run_product(case, (step % 8) as usize);
         self.compared[case.call as usize][ours.number as usize] += 1;
         if *ours != theirs || !kept {
-            let size = case.map.len() + 4 * case.list.len() + case.image.len();
-            self.differ(size, || describe(seed, step, case, ours, &theirs, kept));
+            let names = ["reference", "product"];
+            self.differ(lent(case), || {
+                describe(seed, step, case, names, [ours, &theirs], kept)
+            });
+        }
+        if case.call == Call::SweepFree {
+            self.compare_sweeps(seed, step, case, &theirs);
+        }
+    }
+
+    /// Holds the two programs of `sweep` against the product.
+    fn compare_sweeps(&mut self, seed: u64, step: u64, case: &Case, theirs: &Outcome) {
+        for (name, program) in SWEEPS {
+            let ours = run_sweep(case, program);
+            if ours != *theirs {
+                let names = [name, "product"];
+                self.differ(lent(case), || {
+                    describe(seed, step, case, names, [&ours, theirs], true)
+                });
+            }
         }
     }
 
@@ -323,6 +369,9 @@ fn main() -> ExitCode {
     let all: u64 = tally.compared.iter().flatten().sum();
     println!("seeds {}..{}: {all} calls compared", seeds.start, seeds.end);
     tally.print_table();
+
+    let swept: u64 = tally.compared[Call::SweepFree as usize].iter().sum();
+    println!("{swept} sweeps of free space made by simple and fast too");
 
     let complaints = tally.complaints();
     for complaint in &complaints {

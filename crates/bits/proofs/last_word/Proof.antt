@@ -1,63 +1,39 @@
--- From the last byte down: the word so far is that of the bytes passed.
-use Prim.Native.Nat.{ℕ, _+_, _-_, _*_, _≤_, _<_}
-use mathlib.Core.Path.{_≡_, ap, _∙_}
-use lib.ListN.{length, getD}
-use lib.Seq.{slice}
+-- The four lowest bytes and those after them, which are all where there are fewer than four.
+use Prim.Native.Nat.{_+_, _-_, _*_, _/_}
+use mathlib.Core.Path.{_≡_}
+use lib.ListN.{length}
 use native.Mathlib.Omega.{arith}
-use Rattle.bits.specs.Bits.{byteBits, value}
-use Rattle.bits.proofs.Words.{byte-more, value-past-end, last-room}
+use Rattle.bits.proofs.Words.{four-more, none-past-end}
 use borrow.Author.Needs.{needs}
 use Rattle.bits.proofs.last_word.Statement.{statement}
 use Rattle.bits.proofs.last_word.Tie as tie
 
-abbrev Inv-loop : tie.InvT-loop
-Inv-loop s i word₀ k₀ word k = (i ≤ k) × (k ≤ length s) × (word ≡ value (slice (8 * k) (8 * i + 64) (byteBits s)))
-
-abbrev μ-loop : tie.MeasureT-loop
-μ-loop s i word₀ k₀ word k = k
-
-loop-holds : tie.Need-loop-holds Inv-loop μ-loop
-loop-holds c = let a = c .before .args in (search needs, search needs, value-past-end (a .s .now) (8 * a .i + 64) (omega arith))
-
-mul-word : tie.Need-mul-word Inv-loop μ-loop
-mul-word c =
-    let a = c .before .before .before .args in
-    omega (arith, last-room (a .s .now) (a .i) (c .before .loop .k) (search needs) (search needs))
-
-add-word : tie.Need-add-word Inv-loop μ-loop
-add-word c =
-    let p = c .before .before .before in
-    let a = p .before .before .args in
-    omega (arith, last-room (a .s .now) (a .i) (p .loop .k) (search needs) (search needs))
-
-loop-again : tie.Need-loop-again Inv-loop μ-loop
-loop-again c =
-    let p = c .before .before .before in
-    let a = p .before .before .args in
-    let s = a .s .now in
-    let byte : getD s (p .loop .k - 1) 0 < 256 = c .before .shared-slice-known2 .given (p .loop .k - 1) .fits in
-    let e : p .loop .k - 1 + 1 ≡ p .loop .k = omega arith in
-    let m = rw e at (byte-more s (p .loop .k - 1) (8 * a .i + 64) (omega arith) byte (omega arith)) in
-    (search needs, search needs, omega arith)
-
-returns : tie.Need-returns Inv-loop μ-loop
+returns : tie.Need-returns
 returns c =
     let a = c .before .before .before .args in
-    let e : c .before .loop .k ≡ a .i = omega arith in
-    c .before .loop .inv .2 ∙ ap (λ (x : ℕ). value (slice (8 * x) (8 * a .i + 64) (byteBits (a .s .now)))) e
+    let s = a .s .now in
+    let e : a .i + (length s - a .i) / 4 * 4 ≡ a .i = omega arith in
+    rw (none-past-end s (8 * a .i) (8 * a .i + 64) (omega arith)) (rw e at (c .before .last-bytes .ensures .0))
+
+returns-2 : tie.Need-returns-2
+returns-2 c =
+    let h = c .before .before in
+    let a = h .before .before .args in
+    let s = a .s .now in
+    let e : a .i + (length s - a .i) / 4 * 4 ≡ a .i + 4 = omega arith in
+    let high = rw e at (h .last-bytes .ensures .0) in
+    rw (none-past-end s (8 * a .i) (8 * a .i + 64) (omega arith)) (omega (arith, four-more s (a .i) (8 * length s) (omega arith) (omega arith)))
 
 pub last-word-spec : {M : Type 1} → statement M
 last-word-spec =
     tie.close
     (tie.spec
-    Inv-loop
-    μ-loop
-    loop-holds
     (λ c. search needs)
-    mul-word
+    (λ c. search needs)
     (λ c. search needs)
     (λ c κs. search needs)
-    add-word
+    returns
+    (λ c κs. search needs)
     (λ c. search needs)
-    loop-again
-    returns)
+    (λ c. search needs)
+    returns-2)

@@ -1,0 +1,134 @@
+use mathlib.Core.Path.{_≡_, sym, ap, _∙_, subst, subst⁻¹}
+use mathlib.Core.List.{List, [], _∷_, _++_}
+use Prim.Native.Nat.{ℕ, _+_, _-_}
+use native.Mathlib.Omega.{arith}
+use lib.ListN.{length}
+use Rattle.geometry.specs.Places.{discBits, zoneFrom}
+use Rattle.model.specs.Chain.{Pair, pair}
+use Rattle.walk.specs.HeldBy.{heldFrom}
+use Rattle.walk.proofs.ZonesRead.{reads-on}
+use Rattle.chain.specs.FreeAhead.{StandsFree, freeAhead}
+use Rattle.chain.proofs.Ahead.{none-ahead}
+use Rattle.listing.proofs.HeldZones.{held-split}
+use Rattle.listing.proofs.Ascend.{Apart, apart-from, apart-rest, held-apart, map-apart}
+use Rattle.address.proofs.Bounds.{bytes-small}
+use Rattle.sweep.proofs.ApartCounts.{counts-fit, swept-later, swept-past}
+use Rattle.sweep.proofs.Bounds.{size-small, zone-before}
+use Rattle.sweep.proofs.SweptOn.{SweptSoFar, part-inside, part-swept, swept-ends}
+use borrow.Author.Needs.{needs}
+use Rattle.sweep.proofs.sweep_chains.Statement.{statement}
+use Rattle.sweep.proofs.sweep_chains.Tie as tie
+use Rattle.sweep.proofs.sweep_chains.Reads as reads
+use Rattle.sweep.proofs.sweep_chains.Lts as lts
+use Rattle.chain.proofs.from_zone.Reads as from-zone-reads
+use Rattle.chain.proofs.next.Reads as next-reads
+use Rattle.sweep.proofs.sweep_line.Reads as sweep-line-reads
+
+abbrev Inv-loop : tie.InvT-loop
+Inv-loop map g image₀ first fill zones unit end count₀ w₀ image count w =
+    StandsFree map g w
+    × Apart 0 (discBits g) (freeAhead map g w)
+    × SweptSoFar (g .unit) first fill image₀ image count (heldFrom g 0 map 0 (g .zones)) (freeAhead map g w)
+
+abbrev μ-loop : tie.MeasureT-loop
+μ-loop map g image₀ first fill zones unit end count₀ w₀ image count w = length (freeAhead map g w)
+
+add-end : tie.Need-add-end Inv-loop μ-loop
+add-end c = let s = c .before .before in omega (arith, s .pre .1, size-small (s .args .g) (s .pre .0 .readable .numbers))
+
+loop-holds : tie.Need-loop-holds Inv-loop μ-loop
+loop-holds c =
+    let z = c .before in
+    let s = z .before .before .before in
+    let a = s .args in
+    let g = a .g in
+    let y = z .zone-at .result in
+    let m = a .map .now in
+    let early = heldFrom g 0 m 0 y in
+    let rest = freeAhead m g (c .from-zone .result) in
+    let parts : heldFrom g 0 m 0 (g .zones) ≡ early ++ rest =
+    (let n : g .zones ≡ y + (g .zones - y) = omega (arith, z .zone-at .ensures .1) in
+    let x : 0 + y ≡ y = omega arith in
+    ap (heldFrom g 0 m 0) n ∙ held-split g 0 m 0 y (g .zones - y) ∙ ap (λ (i : ℕ). early ++ heldFrom g 0 m i (g .zones - y)) x ∙ ap (λ (x : List Pair). early ++ x) (sym (c .from-zone .ensures .all))) in
+    let apart = subst (λ (x : List Pair). Apart 0 (discBits g) x) parts (map-apart (s .pre .0) 0) in (
+      c .from-zone .ensures .stands,
+      apart-rest 0 (discBits g) early rest apart,
+      swept-later (g .unit) (a .first) (a .fill) (a .image .now) early rest parts (zoneFrom g 0) (zoneFrom g (0 + y)) (held-apart (s .pre .0) 0 0 y (omega (arith, z .zone-at .ensures .1)))
+      (zone-before g (a .first) y (z .zone-at .ensures .0)),
+    )
+
+mul-if2 : tie.Need-mul-if2 Inv-loop μ-loop
+mul-if2 c =
+    let n = c .before .before in
+    let s = n .before .before .before .before .before .before .before .before in
+    omega (arith, bytes-small (n .next .result .start .0) (s .args .g .unit) (c .struct-known2 .given .0 .fits) (s .pre .0 .readable .numbers .unit-high))
+
+-- the span that was read, and those after it, lie apart
+apart-on : (n : tie.After-next Inv-loop μ-loop) → let a = n .before .before .before .before .before .before .before .before .args in
+    let r = n .next .result in
+    Apart 0 (discBits (a .g)) (pair (r .start .0) (r .len) ∷ freeAhead (a .map .now) (a .g) (r .after))
+apart-on n = subst (λ (x : List Pair). Apart 0 (discBits (n .before .before .before .before .before .before .before .before .args .g)) x) (n .next .ensures .passed) (n .before .before .before .loop .inv .1)
+
+returns : tie.Need-returns Inv-loop μ-loop
+returns c =
+    let n = c .before .before .before in
+    let a = n .before .before .before .before .before .before .before .before .args in
+    let start = n .next .result .start .0 in
+    let k = apart-on n in
+    let here : Apart start (discBits (a .g)) (freeAhead (a .map .now) (a .g) (n .before .before .before .loop .w)) =
+    subst⁻¹ (λ (x : List Pair). Apart start (discBits (a .g)) x) (n .next .ensures .passed) (omega arith, k .1, k .2) in
+    swept-past (a .g .unit) (n .before .before .before .loop .inv .2) start (discBits (a .g)) here (c .if2 .taken)
+
+add-count : tie.Need-add-count Inv-loop μ-loop
+add-count c =
+    let u = c .before .before in
+    let n = c .before .before .before .before .before .before .before in
+    let s = n .before .before .before .before .before .before .before .before in
+    let a = s .args in
+    let r = n .next .result in
+    let inside = part-inside (n .before .before .before .loop .inv .2) (pair (r .start .0) (r .len) ∷ []) (freeAhead (a .map .now) (a .g) (r .after)) (n .next .ensures .passed) (u .sweep-line .ensures .1) in
+    let fit = counts-fit (a .g .unit) 0 (discBits (a .g)) (heldFrom (a .g) 0 (a .map .now) 0 (a .g .zones)) (map-apart (s .pre .0) 0) (a .first) (length (a .image .now)) in
+    omega (arith, inside, fit, s .pre .1, size-small (a .g) (s .pre .0 .readable .numbers))
+
+loop-less : tie.Need-loop-less Inv-loop μ-loop
+loop-less c = omega (arith, ap length (c .before .before .before .before .before .before .before .before .next .ensures .passed))
+
+loop-again : tie.Need-loop-again Inv-loop μ-loop
+loop-again c =
+    let u = c .before .before .before in
+    let n = c .before .before .before .before .before .before .before .before in
+    let a = n .before .before .before .before .before .before .before .before .args in
+    let r = n .next .result in
+    let k = apart-on n in (
+      n .next .ensures .stands,
+      apart-from 0 (r .start .0 + r .len) (discBits (a .g)) (freeAhead (a .map .now) (a .g) (r .after)) (omega arith) (k .2),
+      part-swept (n .before .before .before .loop .inv .2) (pair (r .start .0) (r .len) ∷ []) (freeAhead (a .map .now) (a .g) (r .after)) (n .next .ensures .passed) (u .sweep-line .ensures .1) (u .sweep-line .ensures .0),
+    )
+
+returns-2 : tie.Need-returns-2 Inv-loop μ-loop
+returns-2 c =
+    let p = c .before .before in
+    let a = p .before .before .before .before .before .args in
+    swept-ends (p .loop .inv .2) (none-ahead (a .map .now) (a .g) (p .loop .w) (c .if1 .left))
+
+pub sweep-chains-spec : {M : Type 1} → statement M
+sweep-chains-spec =
+    tie.close
+    (tie.spec
+    Inv-loop
+    μ-loop
+    add-end
+    (λ c κs. let s = c .before .before in (s .pre .0 .readable .numbers, omega (arith, s .pre .1)))
+    (λ c κs. reads-on (c .before .before .before .pre .0 .readable) _ (omega arith))
+    loop-holds
+    (λ c κs. (c .if1 .taken, c .before .before .loop .inv .0))
+    (λ c. search needs)
+    mul-if2
+    (λ c. search needs)
+    returns
+    (λ c κs. c .before .before .before .before .before .before .before .before .before .before .before .before .pre .0 .readable .numbers .unit-high)
+    add-count
+    loop-less
+    loop-again
+    (λ c. search needs)
+    returns-2)

@@ -1,0 +1,98 @@
+//! Both programs against the reference, on generated maps, valid and damaged,
+//! with stretches at odd places.
+
+use reference::generate::{any_map, disc_record, map_a, map_b, map_floppy, valid_map, Rng};
+use reference::geometry::DiscRecord;
+use reference::read;
+
+type Sweep = fn(&[u8], &mut [u8], u64, u8) -> Result<u64, (u32, u32)>;
+
+const PROGRAMS: [(&str, Sweep); 2] = [
+    ("simple", sweep::simple::sweep_free),
+    ("fast", sweep::fast::sweep_free),
+];
+
+const LARGEST_MAP: usize = 130_048;
+
+/// Makes one sweep by all three, and answers the refusal's number or 0.
+fn agree(seed: u64, map: &[u8], image: &[u8], first: u64, fill: u8) -> usize {
+    let mut expected = image.to_vec();
+    let answer = read::sweep_free(map, &mut expected, first, fill)
+        .map_err(|refusal| (refusal.number, refusal.zone));
+    for (name, program) in PROGRAMS {
+        let mut ours = image.to_vec();
+        let given = program(map, &mut ours, first, fill);
+        assert_eq!(given, answer, "{name}, seed {seed}");
+        assert!(ours == expected, "{name}, seed {seed}: the image differs");
+    }
+    answer.err().map_or(0, |(number, _)| number as usize)
+}
+
+/// A stretch anywhere on the disc, or a little past its end.
+fn stretch(rng: &mut Rng, disc_size: u64) -> (u64, Vec<u8>) {
+    let length = rng.pick(&[0, 1, 7, 127, 1_000, 40_000]) + rng.below(300);
+    let first = match rng.below(6) {
+        0 => rng.below(2_000) as u64,
+        1 => disc_size.saturating_sub(length as u64) + rng.below(2) as u64,
+        2 => rng.word(),
+        3 => u64::MAX - rng.below(2_000) as u64,
+        _ => rng.below(disc_size as usize) as u64,
+    };
+    (first, (0..length).map(|_| rng.byte()).collect())
+}
+
+/// Sweeps a map through several stretches; counts the answers by number.
+fn agree_on(seed: u64, rng: &mut Rng, map: &[u8], answers: &mut [u32; 17]) {
+    let disc_size = match map.len() {
+        0..64 => 1,
+        _ => DiscRecord::read(map).disc_size.max(1) as u64,
+    };
+    for _ in 0..4 {
+        let (first, image) = stretch(rng, disc_size);
+        answers[agree(seed, map, &image, first, rng.byte())] += 1;
+    }
+}
+
+#[test]
+fn valid_maps() {
+    let mut answers = [0; 17];
+    for seed in 0..1_500 {
+        let mut rng = Rng::new(seed);
+        let record = disc_record(&mut rng, LARGEST_MAP);
+        let map = valid_map(&mut rng, &record);
+        agree_on(seed, &mut rng, &map, &mut answers);
+    }
+    assert!(answers[0] > 1_000 && answers[16] > 1_000, "{answers:?}");
+}
+
+#[test]
+fn damaged_maps() {
+    let mut answers = [0; 17];
+    for seed in 0..6_000 {
+        let mut rng = Rng::new(seed);
+        let map = any_map(&mut rng, LARGEST_MAP);
+        agree_on(seed, &mut rng, &map, &mut answers);
+    }
+    for number in [0, 1, 2, 3, 4, 5, 6, 7, 16] {
+        assert!(answers[number] > 100, "{answers:?}");
+    }
+}
+
+/// Document 01's maps, and the edges of their discs and free spans.
+#[test]
+fn maps_of_document_01() {
+    for (map, size) in [
+        (map_a(), 1_572_864),
+        (map_b(), 1_572_864),
+        (map_floppy(), 819_200),
+    ] {
+        let whole = vec![0; size];
+        assert_eq!(agree(0, &map, &whole, 0, 0xFF), 0);
+        assert_eq!(agree(0, &map, &whole, 1, 0xFF), 16);
+        assert_eq!(agree(0, &map, &[], size as u64, 0xFF), 0);
+        assert_eq!(agree(0, &map, &[0], size as u64, 0xFF), 16);
+        for first in (0..40 * 1_024).step_by(1_021) {
+            assert_eq!(agree(0, &map, &whole[..1_027], first, 0xFF), 0);
+        }
+    }
+}
