@@ -1,7 +1,7 @@
 -- The free spans ahead of a walk along the chains: all those from a zone on where its chain starts, and one fewer after each step.
 use mathlib.Core.Path.{_≡_, refl, sym, ap, ap₂, _∙_, subst, subst⁻¹}
 use mathlib.Core.Bool.{Bool, true}
-use mathlib.Core.List.{List, [], _∷_, _++_}
+use mathlib.Core.List.{List, [], _∷_, _++_, append-assoc}
 use mathlib.Core.Option.{Option, some}
 use Prim.Native.Nat.{ℕ, suc, _+_, _-_, _<_, _≤_}
 use native.Mathlib.Omega.{arith}
@@ -11,7 +11,7 @@ use Rattle.bits.specs.Bits.{byteBits}
 use Rattle.bits.proofs.Bytes.{length-byte-bits}
 use Rattle.geometry.specs.declared.Geometry.{Geometry}
 use Rattle.geometry.specs.Places.{firstBit, endBit, discBit}
-use Rattle.geometry.proofs.DiscBits.{first-low}
+use Rattle.geometry.proofs.DiscBits.{first-low, from-zero-on}
 use Rattle.model.specs.Chain.{Pair, pair, Entry, onward}
 use Rattle.model.specs.Blocks.{linkIn}
 use Rattle.model.specs.Check.{every, idFits}
@@ -27,7 +27,7 @@ use Rattle.walk.proofs.Remains.{zone-read}
 use Rattle.walk.proofs.OwnersSome.{ids-fit}
 use Rattle.chain.specs.declared.FreeWalk.{FreeWalk}
 use Rattle.chain.specs.declared.FreeStep.{FreeStep}
-use Rattle.chain.specs.FreeAhead.{entriesAt, ReadsAt, spansHere, freeAhead, AtFree, StandsFree, FreeStarts, FreeAdvances}
+use Rattle.chain.specs.FreeAhead.{entriesAt, ReadsAt, spansHere, freeAhead, AtFree, StandsFree, FreeStarts, FreeAdvances, EndBy, PassesTo}
 use Rattle.chain.proofs.Links.{Leads, leads, over-free}
 
 abbrev pub freeWalk : ℕ → ℕ → FreeWalk
@@ -164,6 +164,13 @@ module _ {m : List ℕ} {g : Geometry} {w : FreeWalk} (h : w .zone < g .zones) (
               ∙ ap (λ (x : List Pair). pair start n ∷ x) (sym (here-ahead m g (freeWalk (w .zone) next) h));
         }
 
+    -- the span ends where the next one starts, or before
+    pub ends-before : (next ≡ 0 → ⊥) → start + n ≤ discBit g (w .zone) next
+    ends-before k =
+        let low = link-leads .low (λ q. k (ex ∙ q)) in
+        let some = from-zero-on g (s .ahead .numbers) (w .zone) (w .at .0) (s .here h .low) in
+        omega (arith, es, en, ex, low, some)
+
     pub advances-on : next ≡ 0 → (y : ℕ) → y ≡ w .zone + 1 → (after : FreeWalk) → FreeStarts m g y after → FreeAdvances m g w (step after)
     advances-on k y ey after t =
         let e : y ≡ suc (w .zone) = omega arith in
@@ -173,3 +180,24 @@ module _ {m : List ℕ} {g : Geometry} {w : FreeWalk} (h : w .zone < g .zones) (
               first-span [] (link-leads .nowhere (sym ex ∙ k))
               ∙ ap (λ (x : List Pair). pair start n ∷ x) (ap (λ (x : ℕ). heldFrom g 0 m x (g .zones - x)) (sym e) ∙ sym (t .all));
         }
+
+-- spans passed over one by one
+end-by-more : (d : ℕ) (qs : List Pair) (q : Pair) → EndBy d qs → q .start + q .len ≤ d → EndBy d (qs ++ (q ∷ []))
+end-by-more d [] q k l = (l, tt)
+end-by-more d (p ∷ qs) q k l = (k .0, end-by-more d qs q (k .1) l)
+
+pub passes-none : {m : List ℕ} {g : Geometry} {w : FreeWalk} (d : ℕ) → StandsFree m g w → PassesTo m g d w w
+passes-none d s = record { stands = s; spans = []; passed = refl; before = tt }
+
+pub passes-more : {m : List ℕ} {g : Geometry} {d z : ℕ} {w : FreeWalk} {at next : ℕ} → z < g .zones → PassesTo m g d w (freeWalk z at)
+    → next ≡ onward at (idAt (g .idlen) at (byteBits (zoneBlock g m z))) → (next ≡ 0 → ⊥) → discBit g z next ≤ d → PassesTo m g d w (freeWalk z next)
+passes-more {m} {g} {d} {z} {w} {at} {next} h p e k l =
+    let q : Pair = pair (discBit g z at) (lengthAt (g .idlen) at (endBit g) (byteBits (zoneBlock g m z))) in
+    let a = advances-here {w = freeWalk z at} h (p .stands) {start = q .start} {n = q .len} {next = next} refl refl e k in
+    let b = ends-before {w = freeWalk z at} h (p .stands) {start = q .start} {n = q .len} {next = next} refl refl e k in
+    record {
+      stands = a .stands;
+      spans = p .spans ++ (q ∷ []);
+      passed = p .passed ∙ ap (λ (x : List Pair). p .spans ++ x) (a .passed) ∙ sym (append-assoc (p .spans) (q ∷ []) (freeAhead m g (freeWalk z next)));
+      before = end-by-more d (p .spans) q (p .before) (omega (arith, b));
+    }

@@ -2,7 +2,7 @@
 use mathlib.Core.Path.{_≡_}
 use mathlib.Core.Bool.{Bool, true, cond}
 use mathlib.Core.List.{List, [], _∷_, _++_}
-use Prim.Native.Nat.{ℕ, suc, _-_, _<_, _≤_}
+use Prim.Native.Nat.{ℕ, suc, _+_, _-_, _<_, _≤_}
 use lib.Dec.{ltb}
 use Rattle.bits.specs.Bits.{byteBits}
 use Rattle.geometry.specs.declared.Geometry.{Geometry}
@@ -54,3 +54,14 @@ pub record FreeStarts (m : List ℕ) (g : Geometry) (z : ℕ) (w : FreeWalk) : T
 pub record FreeAdvances (m : List ℕ) (g : Geometry) (w : FreeWalk) (r : FreeStep) : Type 0 where
   pub stands : StandsFree m g (r .after)
   pub passed : freeAhead m g w ≡ pair (r .start .0) (r .len) ∷ freeAhead m g (r .after)
+
+-- some spans are passed over, all of which end at bit d or before it
+abbrev pub EndBy : ℕ → List Pair → Type 0
+EndBy d [] = Unit {0}
+EndBy d (q ∷ qs) = (q .start + q .len ≤ d) × EndBy d qs
+
+pub record PassesTo (m : List ℕ) (g : Geometry) (d : ℕ) (w r : FreeWalk) : Type 0 where
+  pub stands : StandsFree m g r
+  pub spans : List Pair
+  pub passed : freeAhead m g w ≡ spans ++ freeAhead m g r
+  pub before : EndBy d spans

@@ -5,12 +5,15 @@ use geometry::BlockBit;
 use geometry::DiscBit;
 use geometry::Geometry;
 ghost use mathlib.Core.Path.{_≡_};
-ghost use Prim.Native.Nat.{_<_};
+ghost use Prim.Native.Nat.{_+_, _<_, _≤_};
+ghost use Rattle.bits.specs.Bits.{byteBits};
+ghost use Rattle.geometry.specs.Places.{endBit};
 ghost use Rattle.model.specs.Chain.{onward};
 ghost use Rattle.model.specs.Blocks.{linkIn};
 ghost use Rattle.model.specs.Rules.{zoneBlock};
+ghost use Rattle.fragment.specs.Reading.{idAt};
 ghost use Rattle.map.specs.Accepted.{ReadableFrom};
-ghost use Rattle.chain.specs.FreeAhead.{StandsFree, FreeStarts, FreeAdvances};
+ghost use Rattle.chain.specs.FreeAhead.{StandsFree, FreeStarts, FreeAdvances, PassesTo};
 
 // Where a walk stands: at the free fragment that starts at `at` in a zone, or past the last zone.
 pub struct FreeWalk {
@@ -78,4 +81,37 @@ pub fn next(map: &[u8], g: Geometry, w: FreeWalk) -> FreeStep
     }
     let after = from_zone(map, g, z + 1);
     FreeStep { start, len, after }
+}
+
+// A walk that has passed over free fragments of its zone which end at disc bit d or before it: while the next one starts there or before. Only
+// links are read, no lengths.
+pub fn pass_to(map: &[u8], g: Geometry, w: FreeWalk, d: DiscBit) -> FreeWalk
+    requires { ⌜ StandsFree (now map) g w ⌝ }
+    ensures { λ r. ⌜ PassesTo (now (map .entry)) g (d .0) w r ⌝ }
+{
+    let z = w.zone;
+    let mut at = w.at;
+    if g.zones <= z {
+        return w;
+    }
+    let mut linked = linked_from(map, g, z, at);
+    while linked.0 != 0 {
+        if d.0 < g.disc_bit(z, linked).0 {
+            return FreeWalk { zone: z, at };
+        }
+        at = linked;
+        linked = linked_from(map, g, z, at);
+    }
+    FreeWalk { zone: z, at }
+}
+
+// Where the free fragment at `at` links to, or 0.
+fn linked_from(map: &[u8], g: Geometry, z: usize, at: BlockBit) -> BlockBit
+    requires { ⌜ ReadableFrom (now map) g z × (z < g .zones) × (at .0 + g .idlen ≤ endBit g) ⌝ }
+    ensures { λ r. ⌜ r .0 ≡ onward (at .0) (idAt (g .idlen) (at .0) (byteBits (zoneBlock g (now (map .entry)) z))) ⌝ }
+{
+    let a = z * g.sector;
+    let e = a + g.sector;
+    let id = bits::number(&map[a..e], at.0, g.idlen);
+    link_from(at, id as usize)
 }

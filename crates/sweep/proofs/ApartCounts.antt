@@ -11,9 +11,19 @@ use lib.ListN.{length}
 use borrow.Author.Tests.{lt-leb, le-ltb, ltb-true}
 use Rattle.bits.proofs.Tests.{by-test, both, and-with-false}
 use Rattle.model.specs.Chain.{Pair}
+use Rattle.chain.specs.FreeAhead.{EndBy}
 use Rattle.listing.proofs.Ascend.{Apart, apart-le}
 use Rattle.sweep.specs.Sweep.{inPair, covers, sweptBytes, coveredCount, pairCounts}
 use Rattle.sweep.proofs.SweptOn.{counted-none, count-most, SweptSoFar, swept-starts, part-swept}
+
+pub end-by-append : (d : ℕ) (ps qs : List Pair) → EndBy d ps → EndBy d qs → EndBy d (ps ++ qs)
+end-by-append d [] qs j k = k
+end-by-append d (p ∷ ps) qs j k = (j .0, end-by-append d ps qs (j .1) k)
+
+pub apart-end-by : (at end d : ℕ) (qs : List Pair) → Apart at end qs → end ≤ d → EndBy d qs
+apart-end-by at end d [] k h = tt
+apart-end-by at end d (q ∷ qs) k h =
+    (omega (arith, apart-le (q .start + q .len) end qs (k .2)), apart-end-by (q .start + q .len) end d qs (k .2) h)
 
 module _ (unit : ℕ) where
   -- no address before the first pair is covered
@@ -45,12 +55,12 @@ module _ (unit : ℕ) where
   pub counts-fit : (at end : ℕ) (qs : List Pair) → Apart at end qs → (a n : ℕ) → pairCounts unit qs a n ≤ n
   counts-fit at end qs k a n = omega (arith, counts-apart at end qs k a n, count-most unit qs a n)
 
-  -- nor is one after the last
-  none-after : (at end : ℕ) (qs : List Pair) → Apart at end qs → (a : ℕ) → end * unit ≤ a → covers unit qs a ≡ false
-  none-after at end [] k a h = refl
-  none-after at end (q ∷ qs) k a h =
-      let l : (q .start + q .len) * unit ≤ end * unit = mul-le-mul-right unit (apart-le (q .start + q .len) end qs (k .2)) in
-      rw (le-ltb a ((q .start + q .len) * unit) (omega arith), and-with-false (leb (q .start * unit) a)) (none-after (q .start + q .len) end qs (k .2) a h)
+  -- nor is one from the end of all pairs on
+  none-after : (d : ℕ) (qs : List Pair) → EndBy d qs → (a : ℕ) → d * unit ≤ a → covers unit qs a ≡ false
+  none-after d [] k a h = refl
+  none-after d (q ∷ qs) k a h =
+      let l : (q .start + q .len) * unit ≤ d * unit = mul-le-mul-right unit (k .0) in
+      rw (le-ltb a ((q .start + q .len) * unit) (omega arith), and-with-false (leb (q .start * unit) a)) (none-after d qs (k .1) a h)
 
   -- a stretch of which no address is covered
   swept-nothing : (qs : List Pair) (fill a : ℕ) (image : List ℕ) → ((x : ℕ) → a ≤ x → x < a + length image → covers unit qs x ≡ false) → sweptBytes unit qs fill a image ≡ image
@@ -62,13 +72,17 @@ module _ (unit : ℕ) where
   counted-nothing qs a zero h = refl
   counted-nothing qs a (suc n) h = rw (h a (omega arith) (omega arith)) (omega (arith, counted-nothing qs (suc a) n (λ x l u. h x (omega arith) (omega arith))))
 
+  counts-nothing : (d : ℕ) (qs : List Pair) → EndBy d qs → (a n : ℕ) → d * unit ≤ a → pairCounts unit qs a n ≡ 0
+  counts-nothing d [] k a n h = refl
+  counts-nothing d (q ∷ qs) k a n h =
+      omega (arith, counted-nothing (q ∷ []) a n (λ x l u. none-after d (q ∷ []) (k .0, tt) x (omega arith)), counts-nothing d qs (k .1) a n h)
+
   -- a walk along pairs: those that end before the stretch may be left out, and once it has come past the stretch all is swept
   pub swept-later : (first fill : ℕ) (old : List ℕ) {whole : List Pair} (early rest : List Pair) → whole ≡ early ++ rest
-      → (at end : ℕ) → Apart at end early → end * unit ≤ first → SweptSoFar unit first fill old old 0 whole rest
-  swept-later first fill old {whole} early rest e at end k h =
-      let none : (x : ℕ) → first ≤ x → x < first + length old → covers unit early x ≡ false = λ x l u. none-after at end early k x (omega arith) in
+      → (d : ℕ) → EndBy d early → d * unit ≤ first → SweptSoFar unit first fill old old 0 whole rest
+  swept-later first fill old {whole} early rest e d k h =
       part-swept (swept-starts unit first fill old {whole = whole} {rest = whole} refl) early rest e
-      (sym (counts-apart at end early k first (length old) ∙ counted-nothing early first (length old) none)) (sym (swept-nothing early fill first old none))
+      (sym (counts-nothing d early k first (length old) h)) (sym (swept-nothing early fill first old (λ x l u. none-after d early k x (omega arith))))
 
   pub swept-past : {first fill : ℕ} {old new : List ℕ} {count : ℕ} {whole rest : List Pair} → SweptSoFar unit first fill old new count whole rest
       → (at end : ℕ) → Apart at end rest → first + length old ≤ at * unit

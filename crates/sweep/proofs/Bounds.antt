@@ -2,15 +2,15 @@
 use mathlib.Core.Path.{_≡_}
 use mathlib.Core.Bool.{true}
 use Prim.Native.Nat.{ℕ, _+_, _-_, _*_, _/_, _<_, _≤_}
-use native.Mathlib.Nat.{mul-le-mul, mul-le-mul-right, div-mul-le-self}
+use native.Mathlib.Nat.{mul-le-mul, mul-comm, div-mul-le-self, div-le-of-le-mul, le-div-iff-mul-le}
 use native.Mathlib.Omega.{arith}
 use lib.Dec.{ltb}
 use borrow.Author.Tests.{lt-ltb, le-ltb, ltb-true, ltb-false}
 use Rattle.bits.proofs.Tests.{by-test}
 use Rattle.geometry.specs.declared.Geometry.{Geometry}
 use Rattle.geometry.specs.Accepted.{AcceptedGeometry}
-use Rattle.geometry.specs.Places.{zoneOf, zoneFrom}
-use Rattle.geometry.proofs.DiscBits.{disc-bits-small}
+use Rattle.geometry.specs.Places.{zoneOf, zoneFrom, discBits}
+use Rattle.geometry.proofs.DiscBits.{disc-bits-small, map-bits-low}
 
 -- the disc's bytes
 pub size-small : (g : Geometry) → AcceptedGeometry g → g .size ≤ 2190433320960
@@ -26,10 +26,15 @@ size-above size first n h =
     (λ t. let k : size < first + n = omega (arith, ltb-true (size - n) first t) in rw (t, lt-ltb size (first + n) k))
     (λ t. let k : first + n ≤ size = omega (arith, ltb-false (size - n) first t) in rw (t, le-ltb size (first + n) k))
 
--- the zone of an address starts at it or before it
-pub zone-before : (g : Geometry) (address z : ℕ) → z ≡ zoneOf g (address / g .unit) → zoneFrom g (0 + z) * g .unit ≤ address
-zone-before g address z e =
-    let d = address / g .unit in
-    let f : 0 + z ≡ (d + 480) / g .bits = omega (arith, e) in
-    let l : zoneFrom g (0 + z) ≤ d = rw f (omega (arith, div-mul-le-self (d + 480) (g .bits))) in
-    omega (arith, mul-le-mul-right (g .unit) l, div-mul-le-self address (g .unit))
+-- the bit of an address lies on the map or just past it, and so does its zone, which starts at the bit or before it
+pub bit-on-map : (g : Geometry) → AcceptedGeometry g → (address : ℕ) → address ≤ g .size → address / g .unit ≤ discBits g
+bit-on-map g ok address h =
+    let l : address / g .unit ≤ g .size / g .unit =
+    le-div-iff-mul-le {k = g .unit} {x = address / g .unit} {y = g .size} (omega (arith, ok .unit-low)) .1 (omega (arith, div-mul-le-self address (g .unit))) in
+    omega (arith, l, ok .end-is, ok .end-high)
+
+pub zone-on-map : (g : Geometry) → AcceptedGeometry g → (d : ℕ) → d ≤ discBits g → zoneOf g d ≤ g .zones
+zone-on-map g ok d h = div-le-of-le-mul (g .bits) (omega (arith, h, map-bits-low g ok, mul-comm (g .bits) (g .zones)))
+
+pub zone-before : (g : Geometry) (d z : ℕ) → z ≡ zoneOf g d → zoneFrom g (0 + z) ≤ d
+zone-before g d z e = let f : 0 + z ≡ (d + 480) / g .bits = omega (arith, e) in rw f (omega (arith, div-mul-le-self (d + 480) (g .bits)))

@@ -10,7 +10,7 @@ ghost use Prim.Native.Nat.{_+_, _-_, _/_, _≤_, min};
 ghost use lib.Dec.{ltb};
 ghost use lib.ListN.{length, take, drop, replicate};
 ghost use Rattle.geometry.specs.Accepted.{AcceptedGeometry};
-ghost use Rattle.geometry.specs.Places.{zoneOf};
+ghost use Rattle.geometry.specs.Places.{discBits};
 ghost use Rattle.map.specs.Accepted.{AcceptedMap};
 ghost use Rattle.walk.specs.HeldBy.{pairIf, heldFrom};
 ghost use Rattle.sweep.specs.Sweep.{sweptBytes, pairCounts, heldSweep, objectSweep, freeSweep, Sweeps};
@@ -141,7 +141,7 @@ fn sweep_all(
     count
 }
 
-// The same of free space, along the chains: from the zone where the stretch starts. Spans ascend, so the first one past the stretch ends the sweep.
+// The same of free space, along the chains. Spans ascend: those before the stretch are passed over, and the first one past it ends the sweep.
 fn sweep_chains(map: &[u8], g: Geometry, image: &mut [u8], first: usize, fill: u8) -> usize
     requires { ⌜ AcceptedMap (now map) g × (first + length (now image) ≤ g .size) ⌝ }
     ensures bytes { λ r. ⌜ now (image .exit) ≡ sweptBytes (g .unit) (heldFrom g 0 (now (map .entry)) 0 (g .zones)) fill first (now (image .entry)) ⌝ }
@@ -151,7 +151,9 @@ fn sweep_chains(map: &[u8], g: Geometry, image: &mut [u8], first: usize, fill: u
     let unit = g.unit;
     let end = first + image.len();
     let mut count = 0;
-    let mut w = chain::from_zone(map, g, zone_at(g, first));
+    let bit = bit_at(g, first);
+    let from = chain::from_zone(map, g, g.zone_of(bit));
+    let mut w = chain::pass_to(map, g, from, bit);
     while w.zone < zones {
         let s = chain::next(map, g, w);
         let start = s.start;
@@ -164,12 +166,12 @@ fn sweep_chains(map: &[u8], g: Geometry, image: &mut [u8], first: usize, fill: u
     count
 }
 
-// The zone of a disc address; past the last zone for one that ends the map.
-fn zone_at(g: Geometry, address: usize) -> usize
+// The disc bit of an address; past the last one for an address that ends the map.
+fn bit_at(g: Geometry, address: usize) -> DiscBit
     requires { ⌜ AcceptedGeometry g × (address ≤ g .size) ⌝ }
-    ensures { λ r. ⌜ (r ≡ zoneOf g (address / g .unit)) × (r ≤ g .zones) ⌝ }
+    ensures { λ r. ⌜ (r .0 ≡ address / g .unit) × (r .0 ≤ discBits g) ⌝ }
 {
-    g.zone_of(DiscBit((address / g.unit) as u32))
+    DiscBit((address / g.unit) as u32)
 }
 
 // Fills a pair's part of the stretch at once, if the pair is wanted; answers how many bytes that is.
