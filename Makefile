@@ -4,7 +4,9 @@
 # make compare    many generated maps through the library, map_lines and the second program (SEEDS=n for more),
 #                 and that the stored cases are current
 # make memcheck   the same on fewer maps, under valgrind
-# make bench      the library's time against the second program's, as ratios (BEFORE=file.so: against an earlier build's too)
+# make bench      the library's times against the second program's, and its sweep of free space against two programs written for that
+#                 alone, as ratios (BEFORE=file.so: against an earlier build's too)
+# make figures    measures everything and writes docs/FIGURES.md (half an hour)
 # make stack      the stack that each call needs, against what the header says
 # make rust       the tests of the Rust binding
 # make c-example  compiles README's C example and runs it on maps A and B
@@ -14,7 +16,7 @@ MAP ?= maps/a.map
 SEEDS ?= 40000
 DISC ?= target/disc
 
-.PHONY: all test library compare memcheck bench stack rust c-example disc cases
+.PHONY: all test library compare memcheck bench figures stack rust c-example disc cases
 
 all:
 	rt check map_lines
@@ -47,6 +49,9 @@ memcheck: library
 bench: library
 	cd second && cargo build --release --offline -p bench
 	second/target/release/bench$(if $(BEFORE), --before "$(BEFORE)")
+
+figures:
+	docs/figures.sh
 
 stack: library
 	cd second && cargo build --release --offline -p stack

@@ -42,7 +42,7 @@ pub fn write_bit(s: &mut [u8], b: usize, v: bool)
     }
 }
 
-// The number that the n bits from `at` on spell, lowest first: what the word from there on has without the bits above them.
+// The number that the n bits from `at` on spell, lowest first: the word from there on without the bits above them.
 pub fn number(s: &[u8], at: usize, n: usize) -> u32
     requires { ⌜ (n ≤ 31) × (at + n ≤ length (now s) * 8) × (at + n < 2 ^ 64) ⌝ }
     ensures { λ r. ⌜ r ≡ value (slice at (at + n) (byteBits (now (s .entry)))) ⌝ }
@@ -139,7 +139,7 @@ fn word_left(j: usize, end: usize) -> usize
     left
 }
 
-// That word without the bits below j. `end` plays no part: a 1 past it is there as well.
+// The word of eight bytes that begins with j's byte, without the bits below j. A search's `end` plays no part: a 1 past it is there as well.
 fn word_from(s: &[u8], j: usize) -> usize
     requires { ⌜ j ≤ length (now s) * 8 ⌝ }
     ensures { λ r. ⌜ r ≡ value (slice j (8 * (j / 8) + 64) (byteBits (now (s .entry)))) ⌝ }

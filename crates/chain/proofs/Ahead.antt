@@ -22,7 +22,7 @@ use Rattle.zone.specs.Lines.{entriesIn}
 use Rattle.zone.proofs.AllocBits.{first-high}
 use Rattle.map.specs.Accepted.{ReadableFrom}
 use Rattle.walk.specs.HeldBy.{heldBy, inDiscBits, heldIn, heldFrom}
-use Rattle.walk.proofs.ZonesRead.{zone-sound, reads-on}
+use Rattle.walk.proofs.ZonesRead.{zone-sound}
 use Rattle.walk.proofs.Remains.{zone-read}
 use Rattle.walk.proofs.OwnersSome.{ids-fit}
 use Rattle.chain.specs.declared.FreeWalk.{FreeWalk}

@@ -1,19 +1,19 @@
 -- Where a chain leads: over fragments that are owned, none of which has the number of free space, to the next free fragment, or over all
 -- that are left of the zone.
-use mathlib.Core.Path.{_≡_, refl, sym, ap, _∙_, subst}
-use mathlib.Core.Bool.{Bool, true, false, cond}
+use mathlib.Core.Path.{_≡_, refl, ap, _∙_, subst}
+use mathlib.Core.Bool.{Bool, true, false}
 use mathlib.Core.List.{List, [], _∷_}
-use mathlib.Core.Option.{Option, none, some}
+use mathlib.Core.Option.{Option, none}
 use Prim.Native.Nat.{ℕ, zero, suc, _+_, _-_, _<_, _≤_}
 use native.Mathlib.Omega.{arith}
 use lib.Dec.{eqb, ltb}
 use lib.ListN.{length}
 use lib.Seq.{slice-empty}
-use borrow.Author.Tests.{eq-eqb, ne-eqb, eqb-true, eqb-false, ltb-true, ltb-false}
+use borrow.Author.Tests.{eq-eqb, eqb-true, ltb-true, ltb-false}
 use Rattle.bits.proofs.Tests.{by-test, both}
 use Rattle.geometry.specs.declared.Geometry.{Geometry}
 use Rattle.geometry.specs.Places.{endBit}
-use Rattle.model.specs.Chain.{Pair, pair, Entry, Holder, free, owned, entry, onward}
+use Rattle.model.specs.Chain.{pair, Entry, Holder, free, owned, entry, onward}
 use Rattle.model.specs.Check.{every, idFits, holderFits}
 use Rattle.fragment.specs.Found.{nextAfter}
 use Rattle.fragment.specs.Reading.{idAt, lengthAt, readFrom, CanRead, holderAt}

@@ -13,7 +13,6 @@ use Rattle.fragment.specs.Reading.{idAt}
 use Rattle.chain.specs.declared.FreeWalk.{FreeWalk}
 use Rattle.chain.specs.FreeAhead.{freeAhead, AtFree, StandsFree, PassesTo}
 use Rattle.chain.proofs.Ahead.{freeWalk, closes-here, advances-here, passes-none, passes-more}
-use borrow.Author.Needs.{needs}
 use Rattle.chain.proofs.pass_to.Statement.{statement}
 use Rattle.chain.proofs.pass_to.Tie as tie
 

@@ -50,9 +50,11 @@ loop-again c =
     let u = c .before .before .before in
     let d = u .before .before .before .before in
     let p = d .before .before .before in
-    let a = p .before .before .before .before .args in
-    (d .next .ensures .stands, part-swept (p .loop .inv .1) (linePair (a .holder) (d .next .result .line)) (heldLines (a .holder) (remaining (a .map .now) (a .g) (a .g .zones) (d .next .result .after)))
-    (held-step (a .holder) (d .next .ensures) (a .g .zones) (omega arith) (d .before .if1 .taken)) (u .sweep-line .ensures .1) (u .sweep-line .ensures .0))
+    let a = p .before .before .before .before .args in (
+      d .next .ensures .stands,
+      part-swept (p .loop .inv .1) (linePair (a .holder) (d .next .result .line)) (heldLines (a .holder) (remaining (a .map .now) (a .g) (a .g .zones) (d .next .result .after)))
+          (held-step (a .holder) (d .next .ensures) (a .g .zones) (omega arith) (d .before .if1 .taken)) (u .sweep-line .ensures .1) (u .sweep-line .ensures .0),
+    )
 
 returns : tie.Need-returns Inv-loop μ-loop
 returns c =
