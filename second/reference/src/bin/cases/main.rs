@@ -1,7 +1,7 @@
 //! Writes the stored cases: `cases OUTDIR` makes OUTDIR/stdin (the cases) and
 //! OUTDIR/stdout (a line for each). The set is fixed: written-out cases first,
-//! a module for each part of document 01 and one for R-3 of document 02, then
-//! some of a fixed range of seeds.
+//! a module for each part of document 01 and for of document 02,
+//! then some of a fixed range of seeds.
 //! `cases` alone lists the groups with the lines of OUTDIR/stdout they make.
 
 mod bench;
@@ -18,6 +18,7 @@ mod record;
 mod release;
 mod runs;
 mod seeds;
+mod stretches;
 
 use std::collections::{BTreeMap, BTreeSet};
 use std::path::Path;
@@ -37,7 +38,7 @@ const SIZES: Sizes = Sizes {
 const MOST_BYTES: usize = 1_500_000;
 const MOST_CASES: usize = 1_000;
 
-const MODULES: [(&str, &[Group]); 11] = [
+const MODULES: [(&str, &[Group]); 12] = [
     ("bench", bench::GROUPS),
     ("record", record::GROUPS),
     ("check", check::GROUPS),
@@ -49,6 +50,7 @@ const MODULES: [(&str, &[Group]); 11] = [
     ("claim", claim::GROUPS),
     ("runs", runs::GROUPS),
     ("closing", closing::GROUPS),
+    ("stretches", stretches::GROUPS),
 ];
 
 /// A group's place among the cases: its module and function, its first case,
