@@ -13,7 +13,7 @@ use Rattle.bits.proofs.Tests.{by-test, both, and-with-false}
 use Rattle.model.specs.Chain.{Pair}
 use Rattle.chain.specs.FreeAhead.{EndBy}
 use Rattle.listing.proofs.Ascend.{Apart, apart-le}
-use Rattle.sweep.specs.Sweep.{inPair, covers, sweptBytes, coveredCount, pairCounts}
+use Rattle.sweep.specs.Sweep.{inPair, covers, sweptBytes, coveredCount, pairCounts, PairsSwept}
 use Rattle.sweep.proofs.SweptOn.{counted-none, count-most, SweptSoFar, swept-starts, part-swept}
 
 pub end-by-append : (d : ℕ) (ps qs : List Pair) → EndBy d ps → EndBy d qs → EndBy d (ps ++ qs)
@@ -81,13 +81,15 @@ module _ (unit : ℕ) where
   pub swept-later : (first fill : ℕ) (old : List ℕ) {whole : List Pair} (early rest : List Pair) → whole ≡ early ++ rest
       → (d : ℕ) → EndBy d early → d * unit ≤ first → SweptSoFar unit first fill old old 0 whole rest
   swept-later first fill old {whole} early rest e d k h =
-      part-swept (swept-starts unit first fill old {whole = whole} {rest = whole} refl) early rest e
-      (sym (counts-nothing d early k first (length old) h)) (sym (swept-nothing early fill first old (λ x l u. none-after d early k x (omega arith))))
+      part-swept (swept-starts unit first fill old {whole = whole} {rest = whole} refl) early rest e (record {
+        bytes = sym (swept-nothing early fill first old (λ x l u. none-after d early k x (omega arith)));
+        count = sym (counts-nothing d early k first (length old) h);
+      })
 
   pub swept-past : {first fill : ℕ} {old new : List ℕ} {count : ℕ} {whole rest : List Pair} → SweptSoFar unit first fill old new count whole rest
       → (at end : ℕ) → Apart at end rest → first + length old ≤ at * unit
-      → (new ≡ sweptBytes unit whole fill first old) × (count ≡ pairCounts unit whole first (length old))
-  swept-past {first} {fill} {old} {new} {rest = rest} s at end k h = (
-    sym (swept-nothing rest fill first new (λ x l u. none-before at end rest k x (omega (arith, s .kept)))) ∙ s .bytes,
-    omega (arith, s .counts, counts-apart at end rest k first (length old), counted-nothing rest first (length old) (λ x l u. none-before at end rest k x (omega arith))),
-  )
+      → PairsSwept unit whole first fill old count new
+  swept-past {first} {fill} {old} {new} {rest = rest} s at end k h = record {
+    bytes = sym (swept-nothing rest fill first new (λ x l u. none-before at end rest k x (omega (arith, s .kept)))) ∙ s .bytes;
+    count = omega (arith, s .counts, counts-apart at end rest k first (length old), counted-nothing rest first (length old) (λ x l u. none-before at end rest k x (omega arith)));
+  }

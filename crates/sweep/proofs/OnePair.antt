@@ -12,7 +12,7 @@ use borrow.Author.Tests.{le-leb, lt-leb, lt-ltb, le-ltb, ltb-true, ltb-false}
 use Rattle.bits.proofs.Tests.{by-test}
 use Rattle.model.specs.Chain.{Pair}
 use Rattle.walk.specs.HeldBy.{pairIf}
-use Rattle.sweep.specs.Sweep.{covers, sweptBytes, coveredCount, pairCounts}
+use Rattle.sweep.specs.Sweep.{covers, sweptBytes, coveredCount, PairsSwept}
 use Rattle.sweep.proofs.SweptOn.{swept-none}
 
 -- an address as a place in n addresses from a on
@@ -87,15 +87,15 @@ module _ (unit : ℕ) (q : Pair) where
 module _ (unit start len : ℕ) where
   pub wanted-swept : (b : Bool) (fill first i j : ℕ) (image : List ℕ) → b ≡ true
       → i ≡ clipped (start * unit) first (length image) → j ≡ clipped ((start + len) * unit) first (length image)
-      → (run fill image i j ≡ sweptBytes unit (pairIf b start len) fill first image) × (j - i ≡ pairCounts unit (pairIf b start len) first (length image))
+      → PairsSwept unit (pairIf b start len) first fill image (j - i) (run fill image i j)
   wanted-swept b fill first i j image t ei ej =
       let q : Pair = record { start = start; len = len } in
       let n : ℕ = length image in
-      rw t (
-        ap₂ (run fill image) ei ej ∙ sym (pair-swept unit q fill first image),
-        ap₂ (λ (x y : ℕ). y - x) ei ej ∙ sym (pair-count unit q first n) ∙ sym (add-zero (coveredCount unit (q ∷ []) first n)),
-      )
+      rw t record {
+        bytes = ap₂ (run fill image) ei ej ∙ sym (pair-swept unit q fill first image);
+        count = ap₂ (λ (x y : ℕ). y - x) ei ej ∙ sym (pair-count unit q first n) ∙ sym (add-zero (coveredCount unit (q ∷ []) first n));
+      }
 
   pub unwanted-swept : (b : Bool) (fill first : ℕ) (image : List ℕ) → b ≡ false
-      → (image ≡ sweptBytes unit (pairIf b start len) fill first image) × (0 ≡ pairCounts unit (pairIf b start len) first (length image))
-  unwanted-swept b fill first image t = rw t (sym (swept-none unit fill first image), refl)
+      → PairsSwept unit (pairIf b start len) first fill image 0 image
+  unwanted-swept b fill first image t = rw t record { bytes = sym (swept-none unit fill first image); count = refl }

@@ -28,7 +28,7 @@ use Rattle.listing.specs.Listed.{present}
 use Rattle.listing.proofs.Ascend.{map-apart}
 use Rattle.sweep.specs.declared.Swept.{Swept}
 use Rattle.sweep.specs.declared.Swept.the-variants as swept
-use Rattle.sweep.specs.Sweep.{sweptBytes, pairCounts, Class, onDisc, objectClass, objectSweep, freeSweep, sweepNumbers, Sweeps}
+use Rattle.sweep.specs.Sweep.{PairsSwept, Class, onDisc, objectClass, objectSweep, freeSweep, sweepNumbers, Sweeps}
 use Rattle.sweep.proofs.ApartCounts.{counts-apart}
 use Rattle.bits.proofs.Tests.{both}
 
@@ -57,12 +57,12 @@ module _ {m : List ℕ} {g : Geometry} (a : AcceptedMap m g) (holder first fill 
   pub not-past : b ≡ false → first + length old ≤ g .size
   not-past t = ltb-false (g .size) (first + length old) (sym eb ∙ t)
 
-  pub held-swept : b ≡ false → {count : ℕ} {new : List ℕ} → new ≡ sweptBytes (g .unit) held fill first old → count ≡ pairCounts (g .unit) held first (length old)
+  pub held-swept : b ≡ false → {count : ℕ} {new : List ℕ} → PairsSwept (g .unit) held first fill old count new
       → Sweeps (onDisc g first (length old) held) first fill old (swept.Count count) new
-  held-swept t en ec =
+  held-swept t p =
       let k : onDisc g first (length old) held ≡ answered (record { unit = g .unit; pairs = held }) = rw (le-leb (first + length old) (g .size) (not-past t)) in
-      let e = ec ∙ counts-apart (g .unit) 0 (discBits g) held (map-apart a holder) first (length old) in
-      as-found k (record { answer = ap swept.Count e; numbers = ap (λ (n : ℕ). sweepNumbers (swept.Count n)) e; image = en })
+      let e = p .count ∙ counts-apart (g .unit) 0 (discBits g) held (map-apart a holder) first (length old) in
+      as-found k (record { answer = ap swept.Count e; numbers = ap (λ (n : ℕ). sweepNumbers (swept.Count n)) e; image = p .bytes })
 
 -- free space
 module _ {m : List ℕ} {g : Geometry} (a : AcceptedMap m g) (first fill : ℕ) (old : List ℕ) where

@@ -8,7 +8,7 @@ use native.Mathlib.Omega.{arith}
 use lib.ListN.{length}
 use Rattle.bits.proofs.Tests.{by-test}
 use Rattle.model.specs.Chain.{Pair}
-use Rattle.sweep.specs.Sweep.{inPair, covers, sweptBytes, coveredCount, pairCounts}
+use Rattle.sweep.specs.Sweep.{inPair, covers, sweptBytes, coveredCount, pairCounts, PairsSwept}
 
 covered-by-either : (x y : Bool) (fill b : ℕ) → cond (x || y) fill b ≡ cond y fill (cond x fill b)
 covered-by-either true true fill b = refl
@@ -69,29 +69,29 @@ swept-starts unit first fill old {whole} {rest} e = record {
 }
 
 pub swept-ends : {unit first fill : ℕ} {old new : List ℕ} {count : ℕ} {whole rest : List Pair} → SweptSoFar unit first fill old new count whole rest → rest ≡ []
-    → (new ≡ sweptBytes unit whole fill first old) × (count ≡ pairCounts unit whole first (length old))
-swept-ends {unit} {first} {fill} {old} {new} s e = (
-  sym (ap (λ (r : List Pair). sweptBytes unit r fill first new) e ∙ swept-none unit fill first new) ∙ s .bytes,
-  omega (arith, s .counts, ap (λ (r : List Pair). pairCounts unit r first (length old)) e),
-)
+    → PairsSwept unit whole first fill old count new
+swept-ends {unit} {first} {fill} {old} {new} s e = record {
+  bytes = sym (ap (λ (r : List Pair). sweptBytes unit r fill first new) e ∙ swept-none unit fill first new) ∙ s .bytes;
+  count = omega (arith, s .counts, ap (λ (r : List Pair). pairCounts unit r first (length old)) e);
+}
 
 -- one part more
 module _ {unit first fill : ℕ} {old new : List ℕ} {count : ℕ} {whole rest : List Pair} (s : SweptSoFar unit first fill old new count whole rest)
-    (this others : List Pair) (parts : rest ≡ this ++ others) {n : ℕ} (en : n ≡ pairCounts unit this first (length new)) where
+    (this others : List Pair) (parts : rest ≡ this ++ others) {n : ℕ} {next : List ℕ} (p : PairsSwept unit this first fill new n next) where
   counts-on : count + n + pairCounts unit others first (length old) ≡ pairCounts unit whole first (length old)
   counts-on =
-      let here = en ∙ ap (pairCounts unit this first) (s .kept) in
+      let here = p .count ∙ ap (pairCounts unit this first) (s .kept) in
       let both = ap (λ (x : List Pair). pairCounts unit x first (length old)) parts ∙ counts-append unit this others first (length old) in
       omega (arith, s .counts, here, both)
 
   pub part-inside : count + n ≤ pairCounts unit whole first (length old)
   part-inside = omega (arith, counts-on)
 
-  pub part-swept : {next : List ℕ} → next ≡ sweptBytes unit this fill first new → SweptSoFar unit first fill old next (count + n) whole others
-  part-swept e = record {
-    kept = ap length e ∙ swept-length unit this fill first new ∙ s .kept;
+  pub part-swept : SweptSoFar unit first fill old next (count + n) whole others
+  part-swept = record {
+    kept = ap length (p .bytes) ∙ swept-length unit this fill first new ∙ s .kept;
     bytes =
-        ap (sweptBytes unit others fill first) e ∙ sym (swept-append unit this others fill first new)
+        ap (sweptBytes unit others fill first) (p .bytes) ∙ sym (swept-append unit this others fill first new)
         ∙ sym (ap (λ (x : List Pair). sweptBytes unit x fill first new) parts) ∙ s .bytes;
     counts = counts-on;
   }

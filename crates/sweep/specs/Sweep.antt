@@ -42,6 +42,11 @@ abbrev pub pairCounts : ℕ → List Pair → ℕ → ℕ → ℕ
 pairCounts unit [] first n = 0
 pairCounts unit (q ∷ qs) first n = coveredCount unit (q ∷ []) first n + pairCounts unit qs first n
 
+-- pairs swept, one by one: every byte of the stretch, and what is answered
+pub record PairsSwept (unit : ℕ) (qs : List Pair) (first fill : ℕ) (old : List ℕ) (r : ℕ) (new : List ℕ) : Type 0 where
+  pub bytes : new ≡ sweptBytes unit qs fill first old
+  pub count : r ≡ pairCounts unit qs first (length old)
+
 -- the pairs of the class, and the bytes of a map bit
 pub record Class : Type 0 where
   pub unit : ℕ

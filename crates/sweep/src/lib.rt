@@ -13,7 +13,7 @@ ghost use Rattle.geometry.specs.Accepted.{AcceptedGeometry};
 ghost use Rattle.geometry.specs.Places.{discBits};
 ghost use Rattle.map.specs.Accepted.{AcceptedMap};
 ghost use Rattle.walk.specs.HeldBy.{pairIf, heldFrom};
-ghost use Rattle.sweep.specs.Sweep.{sweptBytes, pairCounts, heldSweep, objectSweep, freeSweep, Sweeps};
+ghost use Rattle.sweep.specs.Sweep.{PairsSwept, heldSweep, objectSweep, freeSweep, Sweeps};
 ghost use Rattle.sweep.specs.Laws.{SweepLaws};
 
 // How many addresses of the stretch were of the class, or a refusal.
@@ -98,8 +98,7 @@ fn sweep_held(
     fill: u8,
 ) -> usize
     requires { ⌜ AcceptedMap (now map) g × (first + length (now image) ≤ g .size) ⌝ }
-    ensures bytes { λ r. ⌜ now (image .exit) ≡ sweptBytes (g .unit) (heldFrom g holder (now (map .entry)) 0 (g .zones)) fill first (now (image .entry)) ⌝ }
-    ensures count { λ r. ⌜ r ≡ pairCounts (g .unit) (heldFrom g holder (now (map .entry)) 0 (g .zones)) first (length (now (image .entry))) ⌝ }
+    ensures { λ r. ⌜ PairsSwept (g .unit) (heldFrom g holder (now (map .entry)) 0 (g .zones)) first fill (now (image .entry)) r (now (image .exit)) ⌝ }
 {
     if holder == 0 {
         return sweep_chains(map, g, image, first, fill);
@@ -117,8 +116,7 @@ fn sweep_all(
     fill: u8,
 ) -> usize
     requires { ⌜ AcceptedMap (now map) g × (first + length (now image) ≤ g .size) ⌝ }
-    ensures bytes { λ r. ⌜ now (image .exit) ≡ sweptBytes (g .unit) (heldFrom g holder (now (map .entry)) 0 (g .zones)) fill first (now (image .entry)) ⌝ }
-    ensures count { λ r. ⌜ r ≡ pairCounts (g .unit) (heldFrom g holder (now (map .entry)) 0 (g .zones)) first (length (now (image .entry))) ⌝ }
+    ensures { λ r. ⌜ PairsSwept (g .unit) (heldFrom g holder (now (map .entry)) 0 (g .zones)) first fill (now (image .entry)) r (now (image .exit)) ⌝ }
 {
     let zones = g.zones;
     let unit = g.unit;
@@ -144,8 +142,7 @@ fn sweep_all(
 // The same of free space, along the chains. Spans ascend: those before the stretch are passed over, and the first one past it ends the sweep.
 fn sweep_chains(map: &[u8], g: Geometry, image: &mut [u8], first: usize, fill: u8) -> usize
     requires { ⌜ AcceptedMap (now map) g × (first + length (now image) ≤ g .size) ⌝ }
-    ensures bytes { λ r. ⌜ now (image .exit) ≡ sweptBytes (g .unit) (heldFrom g 0 (now (map .entry)) 0 (g .zones)) fill first (now (image .entry)) ⌝ }
-    ensures count { λ r. ⌜ r ≡ pairCounts (g .unit) (heldFrom g 0 (now (map .entry)) 0 (g .zones)) first (length (now (image .entry))) ⌝ }
+    ensures { λ r. ⌜ PairsSwept (g .unit) (heldFrom g 0 (now (map .entry)) 0 (g .zones)) first fill (now (image .entry)) r (now (image .exit)) ⌝ }
 {
     let zones = g.zones;
     let unit = g.unit;
@@ -185,8 +182,7 @@ fn sweep_line(
     fill: u8,
 ) -> usize
     requires { ⌜ unit ≤ 4096 ⌝ }
-    ensures bytes { λ r. ⌜ now (image .exit) ≡ sweptBytes unit (pairIf wanted (start .0) len) fill first (now (image .entry)) ⌝ }
-    ensures count { λ r. ⌜ r ≡ pairCounts unit (pairIf wanted (start .0) len) first (length (now (image .entry))) ⌝ }
+    ensures { λ r. ⌜ PairsSwept unit (pairIf wanted (start .0) len) first fill (now (image .entry)) r (now (image .exit)) ⌝ }
 {
     if wanted {
         let n = image.len();

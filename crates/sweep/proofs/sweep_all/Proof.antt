@@ -38,7 +38,7 @@ add-count c =
     let s = p .before .before .before .before in
     let a = s .args in
     let inside = part-inside (p .loop .inv .1) (linePair (a .holder) (d .next .result .line)) (heldLines (a .holder) (remaining (a .map .now) (a .g) (a .g .zones) (d .next .result .after)))
-    (held-step (a .holder) (d .next .ensures) (a .g .zones) (omega arith) (d .before .if1 .taken)) (u .sweep-line .ensures .1) in
+    (held-step (a .holder) (d .next .ensures) (a .g .zones) (omega arith) (d .before .if1 .taken)) (u .sweep-line .ensures) in
     let fit = counts-fit (a .g .unit) 0 (discBits (a .g)) (heldFrom (a .g) (a .holder) (a .map .now) 0 (a .g .zones)) (map-apart (s .pre .0) (a .holder)) (a .first) (length (a .image .now)) in
     omega (arith, inside, fit, s .pre .1, size-small (a .g) (s .pre .0 .readable .numbers))
 
@@ -53,7 +53,7 @@ loop-again c =
     let a = p .before .before .before .before .args in (
       d .next .ensures .stands,
       part-swept (p .loop .inv .1) (linePair (a .holder) (d .next .result .line)) (heldLines (a .holder) (remaining (a .map .now) (a .g) (a .g .zones) (d .next .result .after)))
-          (held-step (a .holder) (d .next .ensures) (a .g .zones) (omega arith) (d .before .if1 .taken)) (u .sweep-line .ensures .1) (u .sweep-line .ensures .0),
+          (held-step (a .holder) (d .next .ensures) (a .g .zones) (omega arith) (d .before .if1 .taken)) (u .sweep-line .ensures),
     )
 
 returns : tie.Need-returns Inv-loop μ-loop

@@ -94,7 +94,7 @@ add-count c =
     let s = n .before .before .before .before .before .before .before .before .before .before in
     let a = s .args in
     let r = n .next .result in
-    let inside = part-inside (n .before .before .before .loop .inv .2) (pair (r .start .0) (r .len) ∷ []) (freeAhead (a .map .now) (a .g) (r .after)) (n .next .ensures .passed) (u .sweep-line .ensures .1) in
+    let inside = part-inside (n .before .before .before .loop .inv .2) (pair (r .start .0) (r .len) ∷ []) (freeAhead (a .map .now) (a .g) (r .after)) (n .next .ensures .passed) (u .sweep-line .ensures) in
     let fit = counts-fit (a .g .unit) 0 (discBits (a .g)) (heldFrom (a .g) 0 (a .map .now) 0 (a .g .zones)) (map-apart (s .pre .0) 0) (a .first) (length (a .image .now)) in
     omega (arith, inside, fit, s .pre .1, size-small (a .g) (s .pre .0 .readable .numbers))
 
@@ -110,7 +110,7 @@ loop-again c =
     let k = apart-on n in (
       n .next .ensures .stands,
       apart-from 0 (r .start .0 + r .len) (discBits (a .g)) (freeAhead (a .map .now) (a .g) (r .after)) (omega arith) (k .2),
-      part-swept (n .before .before .before .loop .inv .2) (pair (r .start .0) (r .len) ∷ []) (freeAhead (a .map .now) (a .g) (r .after)) (n .next .ensures .passed) (u .sweep-line .ensures .1) (u .sweep-line .ensures .0),
+      part-swept (n .before .before .before .loop .inv .2) (pair (r .start .0) (r .len) ∷ []) (freeAhead (a .map .now) (a .g) (r .after)) (n .next .ensures .passed) (u .sweep-line .ensures),
     )
 
 returns-2 : tie.Need-returns-2 Inv-loop μ-loop

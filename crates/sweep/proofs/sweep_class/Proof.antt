@@ -22,7 +22,7 @@ returns-2 c =
     let l = w .before .before in
     let s = l .before .before .before .before in
     held-swept (s .pre) (s .args .holder) (s .args .first) (s .args .fill) (s .args .image .now) (l .before .ends-past .ensures) (l .if1 .left)
-    (w .sweep-held .ensures .0) (w .sweep-held .ensures .1)
+    (w .sweep-held .ensures)
 
 pub sweep-class-spec : {M : Type 1} → statement M
 sweep-class-spec =

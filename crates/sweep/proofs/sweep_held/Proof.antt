@@ -4,7 +4,7 @@ use Rattle.sweep.proofs.sweep_held.Statement.{statement}
 use Rattle.sweep.proofs.sweep_held.Tie as tie
 
 returns : tie.Need-returns
-returns c = let w = c .before .before in rw (w .before .before .if1 .taken) (w .sweep-chains .ensures .0, w .sweep-chains .ensures .1)
+returns c = let w = c .before .before in rw (w .before .before .if1 .taken) (w .sweep-chains .ensures)
 
 pub sweep-held-spec : {M : Type 1} → statement M
 sweep-held-spec =

@@ -23,7 +23,7 @@ returns c =
     let i = c .before .before .before .before .before .clip in
     let j = c .before .before .before .before .clip2 in
     let w = wanted-swept (a .unit) (a .start .0) (a .len) (a .wanted) (a .fill) (a .first) (i .result) (j .result) (a .image .now) (t .if1 .taken) (i .ensures .0) (j .ensures .0) in
-    (f .ensures ∙ w .0, w .1)
+    record { bytes = f .ensures ∙ w .bytes; count = w .count }
 
 returns-2 : tie.Need-returns-2
 returns-2 c = let a = c .before .before .args in unwanted-swept (a .unit) (a .start .0) (a .len) (a .wanted) (a .fill) (a .first) (a .image .now) (c .if1 .left)
