@@ -16,7 +16,13 @@ measure() {
         make --no-print-directory test >"$logs/gate" 2>&1
         echo "seconds $(($(date +%s) - begun))" >>"$logs/gate"
         ;;
-    compare | bench | stack) make --no-print-directory "$1" >"$logs/$1" 2>/dev/null ;;
+    compare) make --no-print-directory compare >"$logs/compare" 2>&1 ;;
+    bench | stack)
+        # What building prints is none of the page's.
+        make --no-print-directory library >/dev/null 2>&1
+        (cd second && cargo build --release --offline -p "$1") >/dev/null 2>&1
+        second/target/release/"$1" >"$logs/$1"
+        ;;
     page) ;;
     *)
         echo "the steps are gate, compare, bench, stack and page" >&2
@@ -79,8 +85,9 @@ TEXT
 `make bench`: the library ("product") against the second program ("reference"), and its sweep of free space against two programs that do
 nothing else. The same maps and arguments, release builds, all answers compared before they are timed. The second program is plain Rust
 that walks a map once and keeps lists; the library keeps nothing but the pieces of the zone that it edits.
-
 TEXT
+    echo "The library is compiled by \`rt staticlib\` of $(rt version), the others by the compiler named below."
+    echo
     cat "$logs/bench"
     cat <<'TEXT'
 
@@ -95,4 +102,11 @@ TEXT
 for step in ${*:-gate compare bench stack}; do
     measure "$step"
 done
-page >docs/FIGURES.md
+for step in gate compare bench stack; do
+    [ -f "$logs/$step" ] || {
+        echo "$step is not measured yet: docs/figures.sh $step" >&2
+        exit 1
+    }
+done
+page >"$logs/page"
+mv "$logs/page" docs/FIGURES.md
