@@ -3,7 +3,7 @@ use mathlib.Core.Path.{_≡_, refl, sym, ap, ap₂, _∙_, subst, subst⁻¹}
 use mathlib.Core.Bool.{Bool, true}
 use mathlib.Core.List.{List, [], _∷_, _++_, append-assoc}
 use mathlib.Core.Option.{Option, some}
-use Prim.Native.Nat.{ℕ, suc, _+_, _-_, _<_, _≤_}
+use Prim.Native.Nat.{ℕ, _+_, _-_, _<_, _≤_}
 use native.Mathlib.Omega.{arith}
 use lib.ListN.{length}
 use borrow.Author.Tests.{lt-ltb, le-ltb}
@@ -21,8 +21,9 @@ use Rattle.fragment.proofs.Opened.{closes}
 use Rattle.zone.specs.Lines.{entriesIn}
 use Rattle.zone.proofs.AllocBits.{first-high}
 use Rattle.map.specs.Accepted.{ReadableFrom}
-use Rattle.walk.specs.HeldBy.{heldBy, inDiscBits, heldIn, heldFrom}
+use Rattle.walk.specs.HeldBy.{heldBy, inDiscBits, heldFrom}
 use Rattle.walk.proofs.ZonesRead.{zone-sound}
+use Rattle.walk.proofs.HeldZones.{held-turn, held-end}
 use Rattle.walk.proofs.Remains.{zone-read}
 use Rattle.walk.proofs.OwnersSome.{ids-fit}
 use Rattle.chain.specs.declared.FreeWalk.{FreeWalk}
@@ -33,18 +34,15 @@ use Rattle.chain.proofs.Links.{Leads, leads, over-free}
 abbrev pub freeWalk : ℕ → ℕ → FreeWalk
 freeWalk z at = record { zone = z; at = record { 0 = at } }
 
--- what lies ahead, and what a holder has of zones, the first of them apart
+-- what lies ahead: nothing past the last zone, else the zone's and then the next zones'
 module _ (m : List ℕ) (g : Geometry) where
   pub none-ahead : (w : FreeWalk) → g .zones ≤ w .zone → freeAhead m g w ≡ []
   unfolding freeAhead
   none-ahead w h = rw (le-ltb (w .zone) (g .zones) h) refl
 
-  here-ahead : (w : FreeWalk) → w .zone < g .zones → freeAhead m g w ≡ inDiscBits g (w .zone) (spansHere g m w) ++ heldFrom g 0 m (suc (w .zone)) (g .zones - suc (w .zone))
+  here-ahead : (w : FreeWalk) → w .zone < g .zones → freeAhead m g w ≡ inDiscBits g (w .zone) (spansHere g m w) ++ heldFrom g 0 m (w .zone + 1) (g .zones - (w .zone + 1))
   unfolding freeAhead
   here-ahead w h = rw (lt-ltb (w .zone) (g .zones) h) refl
-
-  zone-first : (z : ℕ) → z < g .zones → heldFrom g 0 m z (g .zones - z) ≡ heldIn g 0 m z ++ heldFrom g 0 m (suc z) (g .zones - suc z)
-  zone-first z h = let e : g .zones - z ≡ suc (g .zones - suc z) = omega arith in ap (heldFrom g 0 m z) e
 
 module _ {m : List ℕ} {g : Geometry} {z : ℕ} (a : ReadableFrom m g z) (h : z < g .zones) where
   abbrev bits : List Bool
@@ -75,10 +73,10 @@ module _ {m : List ℕ} {g : Geometry} {z : ℕ} (a : ReadableFrom m g z) (h : z
       (omega (arith, first-high z, a .numbers .bits-low, a .numbers .shortest-low)) zone-reads-at
 
   -- nothing of the zone is free
-  pub zone-full : {at : ℕ} → at ≡ first → at ≡ 0 → heldFrom g 0 m z (g .zones - z) ≡ heldFrom g 0 m (suc z) (g .zones - suc z)
+  pub zone-full : {at : ℕ} → at ≡ first → at ≡ 0 → heldFrom g 0 m z (g .zones - z) ≡ heldFrom g 0 m (z + 1) (g .zones - (z + 1))
   zone-full {at} e k =
-      zone-first m g z h
-      ∙ ap (λ (x : List Pair). inDiscBits g z x ++ heldFrom g 0 m (suc z) (g .zones - suc z))
+      held-turn g 0 m z (g .zones) h
+      ∙ ap (λ (x : List Pair). inDiscBits g z x ++ heldFrom g 0 m (z + 1) (g .zones - (z + 1)))
       (ap (heldBy 0) (sym zone-entries) ∙ zone-leads .nowhere (sym e ∙ k))
 
   -- a walk stands at the zone's first free fragment
@@ -93,17 +91,16 @@ module _ {m : List ℕ} {g : Geometry} {z : ℕ} (a : ReadableFrom m g z) (h : z
         };
         all =
             ap (λ (x : ℕ). freeAhead m g (freeWalk z x)) e ∙ here-ahead m g (freeWalk z first) h
-            ∙ ap (λ (x : List Pair). inDiscBits g z x ++ heldFrom g 0 m (suc z) (g .zones - suc z)) (sym (l .same n) ∙ ap (heldBy 0) zone-entries)
-            ∙ sym (zone-first m g z h);
+            ∙ ap (λ (x : List Pair). inDiscBits g z x ++ heldFrom g 0 m (z + 1) (g .zones - (z + 1))) (sym (l .same n) ∙ ap (heldBy 0) zone-entries)
+            ∙ sym (held-turn g 0 m z (g .zones) h);
       }
 
 -- past the last zone
 pub starts-past : {m : List ℕ} {g : Geometry} {z : ℕ} → ReadableFrom m g z → g .zones ≤ z → FreeStarts m g z (freeWalk z 0)
 starts-past {m} {g} {z} a h =
-    let e : g .zones - z ≡ 0 = omega arith in
     record {
       stands = record { ahead = a; here = λ u. absurd (omega arith) };
-      all = none-ahead m g (freeWalk z 0) h ∙ sym (ap (heldFrom g 0 m z) e);
+      all = none-ahead m g (freeWalk z 0) h ∙ sym (held-end g 0 m z (g .zones) h);
     }
 
 -- full zones before the first free fragment
@@ -123,7 +120,7 @@ module _ {m : List ℕ} {g : Geometry} {w : FreeWalk} (h : w .zone < g .zones) (
   len = lengthAt (g .idlen) (w .at .0) (endBit g) B
 
   abbrev others : List Pair
-  others = heldFrom g 0 m (suc (w .zone)) (g .zones - suc (w .zone))
+  others = heldFrom g 0 m (w .zone + 1) (g .zones - (w .zone + 1))
 
   passed : (heldBy 0 (entriesAt g B (w .at .0) (w .at .0)) ≡ pair (w .at .0) len ∷ heldBy 0 (entriesAt g B (w .at .0 + len) (onward (w .at .0) id)))
       × ReadsAt g B (w .at .0 + len) (onward (w .at .0) id)
@@ -173,18 +170,17 @@ module _ {m : List ℕ} {g : Geometry} {w : FreeWalk} (h : w .zone < g .zones) (
 
     pub advances-on : next ≡ 0 → (y : ℕ) → y ≡ w .zone + 1 → (after : FreeWalk) → FreeStarts m g y after → FreeAdvances m g w (step after)
     advances-on k y ey after t =
-        let e : y ≡ suc (w .zone) = omega arith in
         record {
           stands = t .stands;
           passed =
               first-span [] (link-leads .nowhere (sym ex ∙ k))
-              ∙ ap (λ (x : List Pair). pair start n ∷ x) (ap (λ (x : ℕ). heldFrom g 0 m x (g .zones - x)) (sym e) ∙ sym (t .all));
+              ∙ ap (λ (x : List Pair). pair start n ∷ x) (ap (λ (x : ℕ). heldFrom g 0 m x (g .zones - x)) (sym ey) ∙ sym (t .all));
         }
 
 -- spans passed over one by one
-end-by-more : (d : ℕ) (qs : List Pair) (q : Pair) → EndBy d qs → q .start + q .len ≤ d → EndBy d (qs ++ (q ∷ []))
-end-by-more d [] q k l = (l, tt)
-end-by-more d (p ∷ qs) q k l = (k .0, end-by-more d qs q (k .1) l)
+pub end-by-append : (d : ℕ) (ps qs : List Pair) → EndBy d ps → EndBy d qs → EndBy d (ps ++ qs)
+end-by-append d [] qs j k = k
+end-by-append d (p ∷ ps) qs j k = (j .0, end-by-append d ps qs (j .1) k)
 
 pub passes-none : {m : List ℕ} {g : Geometry} {w : FreeWalk} (d : ℕ) → StandsFree m g w → PassesTo m g d w w
 passes-none d s = record { stands = s; spans = []; passed = refl; before = tt }
@@ -199,5 +195,5 @@ passes-more {m} {g} {d} {z} {w} {at} {next} h p e k l =
       stands = a .stands;
       spans = p .spans ++ (q ∷ []);
       passed = p .passed ∙ ap (λ (x : List Pair). p .spans ++ x) (a .passed) ∙ sym (append-assoc (p .spans) (q ∷ []) (freeAhead m g (freeWalk z next)));
-      before = end-by-more d (p .spans) q (p .before) (omega (arith, b));
+      before = end-by-append d (p .spans) (q ∷ []) (p .before) (omega (arith, b), tt);
     }

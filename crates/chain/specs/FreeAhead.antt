@@ -2,7 +2,7 @@
 use mathlib.Core.Path.{_≡_}
 use mathlib.Core.Bool.{Bool, true, cond}
 use mathlib.Core.List.{List, [], _∷_, _++_}
-use Prim.Native.Nat.{ℕ, suc, _+_, _-_, _<_, _≤_}
+use Prim.Native.Nat.{ℕ, _+_, _-_, _<_, _≤_}
 use lib.Dec.{ltb}
 use Rattle.bits.specs.Bits.{byteBits}
 use Rattle.geometry.specs.declared.Geometry.{Geometry}
@@ -32,7 +32,7 @@ spansHere g m w = heldBy 0 (entriesAt g (byteBits (zoneBlock g m (w .zone))) (w 
 unfoldable pub freeAhead : List ℕ → Geometry → FreeWalk → List Pair
 freeAhead m g w =
     cond (ltb (w .zone) (g .zones))
-    (inDiscBits g (w .zone) (spansHere g m w) ++ heldFrom g 0 m (suc (w .zone)) (g .zones - suc (w .zone)))
+    (inDiscBits g (w .zone) (spansHere g m w) ++ heldFrom g 0 m (w .zone + 1) (g .zones - (w .zone + 1)))
     []
 
 -- at a free fragment: the chain has led to its start
@@ -55,7 +55,7 @@ pub record FreeAdvances (m : List ℕ) (g : Geometry) (w : FreeWalk) (r : FreeSt
   pub stands : StandsFree m g (r .after)
   pub passed : freeAhead m g w ≡ pair (r .start .0) (r .len) ∷ freeAhead m g (r .after)
 
--- some spans are passed over, all of which end at bit d or before it
+-- some spans are passed over, all of which end at bit d or before it; how many is a matter of time, not of an answer
 abbrev pub EndBy : ℕ → List Pair → Type 0
 EndBy d [] = Unit {0}
 EndBy d (q ∷ qs) = (q .start + q .len ≤ d) × EndBy d qs

@@ -25,7 +25,7 @@ use Rattle.model.proofs.Options.{none-some}
 use Rattle.map.specs.Accepted.{AcceptedMap}
 use Rattle.walk.specs.HeldBy.{heldFrom}
 use Rattle.walk.proofs.ZonesTouching.{zones-are}
-use Rattle.listing.proofs.HeldZones.{held-all}
+use Rattle.walk.proofs.HeldZones.{held-all}
 use Rattle.listing.proofs.ObjectOrder.{in-object-order}
 use Rattle.edits.specs.Judge.{isEmpty, lowest}
 use Rattle.edits.specs.EditableMap.{EditableMap}

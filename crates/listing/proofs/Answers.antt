@@ -32,7 +32,7 @@ use Rattle.listing.specs.declared.Listed.the-variants as listed
 use Rattle.walk.specs.HeldBy.{heldFrom}
 use Rattle.listing.specs.Listed.{withRoom, present, objectRead, objectFound, freeFound, listNumbers, Lists}
 use Rattle.listing.proofs.Stored.{stored-append, stored-first}
-use Rattle.listing.proofs.HeldZones.{held-all}
+use Rattle.walk.proofs.HeldZones.{held-all}
 use Rattle.listing.proofs.FreeHeld.{free-spans}
 use Rattle.listing.proofs.ObjectOrder.{in-object-order}
 

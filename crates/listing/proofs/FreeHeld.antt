@@ -19,7 +19,7 @@ use Rattle.map.specs.Accepted.{AcceptedMap}
 use Rattle.walk.proofs.OwnersSome.{ids-fit}
 use Rattle.walk.specs.HeldBy.{heldBy, inDiscBits, heldIn, heldFrom}
 use Rattle.map.proofs.Accepts.{ReadInTurn, zones-in-turn}
-use Rattle.listing.proofs.HeldZones.{held-turn, held-end}
+use Rattle.walk.proofs.HeldZones.{held-turn, held-end}
 
 free-step : (g : Geometry) (h : Holder) (q : Pair) (ps qs : List Pair) → holderFits g h ≡ true → ps ≡ qs → cond (eqb (holderNumber h) 0) (q ∷ ps) ps ≡ freeIf h q qs
 free-step g free q ps qs f e = ap (λ (r : List Pair). q ∷ r) e

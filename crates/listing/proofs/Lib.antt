@@ -1,7 +1,6 @@
 pub mod ByTable
 pub mod Stored
 pub mod LinesStored
-pub mod HeldZones
 pub mod Filled
 pub mod Ascend
 pub mod FreeHeld

@@ -21,7 +21,7 @@ use Rattle.zone.proofs.EntriesRead.{is-read}
 use Rattle.map.specs.Accepted.{AcceptedMap}
 use Rattle.walk.specs.HeldBy.{heldBy, inDiscBits, heldIn, heldFrom}
 use Rattle.map.proofs.Accepts.{ReadInTurn, zones-in-turn}
-use Rattle.listing.proofs.HeldZones.{held-turn, held-end}
+use Rattle.walk.proofs.HeldZones.{held-turn, held-end}
 use Rattle.listing.proofs.Filled.{Fills, fills-le, entries-fill}
 
 -- the places of pieces

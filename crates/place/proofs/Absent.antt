@@ -11,7 +11,7 @@ use Rattle.geometry.specs.Places.{startZone}
 use Rattle.model.specs.Pieces.{Piece, piecesOf, objectPairs, piecesOfZones}
 use Rattle.map.specs.Accepted.{AcceptedMap}
 use Rattle.walk.specs.HeldBy.{heldFrom}
-use Rattle.listing.proofs.HeldZones.{held-all}
+use Rattle.walk.proofs.HeldZones.{held-all}
 use Rattle.listing.proofs.ObjectOrder.{in-object-order}
 use Rattle.edits.specs.Judge.{isEmpty}
 use Rattle.walk.proofs.ZonesTouching.{zones-are}

@@ -16,10 +16,6 @@ use Rattle.listing.proofs.Ascend.{Apart, apart-le}
 use Rattle.sweep.specs.Sweep.{inPair, covers, sweptBytes, coveredCount, pairCounts, PairsSwept}
 use Rattle.sweep.proofs.SweptOn.{counted-none, count-most, SweptSoFar, swept-starts, part-swept}
 
-pub end-by-append : (d : ℕ) (ps qs : List Pair) → EndBy d ps → EndBy d qs → EndBy d (ps ++ qs)
-end-by-append d [] qs j k = k
-end-by-append d (p ∷ ps) qs j k = (j .0, end-by-append d ps qs (j .1) k)
-
 pub apart-end-by : (at end d : ℕ) (qs : List Pair) → Apart at end qs → end ≤ d → EndBy d qs
 apart-end-by at end d [] k h = tt
 apart-end-by at end d (q ∷ qs) k h =

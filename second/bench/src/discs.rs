@@ -4,7 +4,7 @@
 use std::ops::Range;
 
 use reference::case::{Call, Case};
-use reference::generate::{build, Rng};
+use reference::generate::{build, Rng, FLOPPY};
 use reference::geometry::{DiscRecord, Geometry};
 use reference::map::{check, CheckedMap, Owner};
 
@@ -14,16 +14,6 @@ use crate::maps::{hard_disc, WINDOW};
 /// maps by heart: with 16 floppies a sweep took up to a quarter less time.
 const FLOPPIES: u64 = 127;
 const HARD_DISCS: u64 = 16;
-
-/// The floppy of document 01's last example.
-const FLOPPY: DiscRecord = DiscRecord {
-    log2secsize: 10,
-    idlen: 15,
-    log2bpmb: 7,
-    nzones: 1,
-    zone_spare: 1_312,
-    disc_size: 819_200,
-};
 
 /// The stretches into which a floppy is cut for the second time.
 const CUT: usize = 65_536;

@@ -1201,18 +1201,20 @@ pub fn map_of_eight_zones() -> Vec<u8> {
     build(&record, &zones)
 }
 
+/// The record of an 800K floppy.
+pub const FLOPPY: DiscRecord = DiscRecord {
+    log2secsize: 10,
+    idlen: 15,
+    log2bpmb: 7,
+    nzones: 1,
+    zone_spare: 1_312,
+    disc_size: 819_200,
+};
+
 /// The 800K floppy of the last bench line.
 pub fn map_floppy() -> Vec<u8> {
-    let record = DiscRecord {
-        log2secsize: 10,
-        idlen: 15,
-        log2bpmb: 7,
-        nzones: 1,
-        zone_spare: 1_312,
-        disc_size: 819_200,
-    };
     build(
-        &record,
+        &FLOPPY,
         &[vec![
             (Owner::Object(2), 32),
             (Owner::Object(9), 16),

@@ -1,7 +1,6 @@
 -- Zones in which nothing is free are passed over.
-use Prim.Native.Nat.{ℕ, suc, _+_, _-_, _≤_}
-use mathlib.Core.Path.{_≡_, refl, ap, _∙_}
-use native.Mathlib.Omega.{arith}
+use Prim.Native.Nat.{_-_, _≤_}
+use mathlib.Core.Path.{_≡_, refl, _∙_}
 use Rattle.walk.specs.HeldBy.{heldFrom}
 use Rattle.walk.proofs.ZonesRead.{reads-on}
 use Rattle.chain.proofs.Ahead.{zone-full, starts-here, starts-past, starts-before}
@@ -33,9 +32,8 @@ loop-again c =
     let f = c .before .before in
     let l = f .before .before in
     let s = l .before .before in
-    let e : suc (l .loop .y) ≡ l .loop .y + 1 = omega arith in
     let full = zone-full (reads-on (s .pre) (l .loop .y) (l .loop .inv .0)) (f .before .loop-test .taken) (f .first-in .ensures) (c .if1 .left) in
-    (search needs, l .loop .inv .1 ∙ full ∙ ap (λ (x : ℕ). heldFrom (s .args .g) 0 (s .args .map .now) x (s .args .g .zones - x)) e)
+    (search needs, l .loop .inv .1 ∙ full)
 
 returns-2 : tie.Need-returns-2 Inv-loop μ-loop
 returns-2 c =

@@ -1,6 +1,8 @@
+-- What is swept so far, with the free spans that lie ahead swept after it, is all of free space swept: the spans before the walk's start end before the
+-- stretch, and those after its end start past it. The measure is how many spans lie ahead.
 use mathlib.Core.Path.{_≡_, sym, ap, _∙_, subst, subst⁻¹}
 use mathlib.Core.List.{List, [], _∷_, _++_, append-assoc}
-use Prim.Native.Nat.{ℕ, _+_, _-_, _*_, _≤_}
+use Prim.Native.Nat.{_+_, _*_, _≤_}
 use native.Mathlib.Nat.{div-mul-le-self}
 use native.Mathlib.Omega.{arith}
 use lib.ListN.{length}
@@ -9,21 +11,16 @@ use Rattle.model.specs.Chain.{Pair, pair}
 use Rattle.walk.specs.HeldBy.{heldFrom}
 use Rattle.walk.proofs.ZonesRead.{reads-on}
 use Rattle.chain.specs.FreeAhead.{StandsFree, freeAhead}
-use Rattle.chain.proofs.Ahead.{none-ahead}
-use Rattle.listing.proofs.HeldZones.{held-split}
+use Rattle.chain.proofs.Ahead.{none-ahead, end-by-append}
+use Rattle.walk.proofs.HeldZones.{held-all}
 use Rattle.listing.proofs.Ascend.{Apart, apart-from, apart-rest, held-apart, map-apart}
 use Rattle.address.proofs.Bounds.{bytes-small}
-use Rattle.sweep.proofs.ApartCounts.{end-by-append, apart-end-by, counts-fit, swept-later, swept-past}
+use Rattle.sweep.proofs.ApartCounts.{apart-end-by, counts-fit, swept-later, swept-past}
 use Rattle.sweep.proofs.Bounds.{size-small, zone-on-map, zone-before}
 use Rattle.sweep.proofs.SweptOn.{SweptSoFar, part-inside, part-swept, swept-ends}
 use borrow.Author.Needs.{needs}
 use Rattle.sweep.proofs.sweep_chains.Statement.{statement}
 use Rattle.sweep.proofs.sweep_chains.Tie as tie
-use Rattle.sweep.proofs.sweep_chains.Reads as reads
-use Rattle.sweep.proofs.sweep_chains.Lts as lts
-use Rattle.chain.proofs.from_zone.Reads as from-zone-reads
-use Rattle.chain.proofs.next.Reads as next-reads
-use Rattle.sweep.proofs.sweep_line.Reads as sweep-line-reads
 
 abbrev Inv-loop : tie.InvT-loop
 Inv-loop map g image₀ first fill zones unit end count₀ w₀ image count w =
@@ -52,10 +49,8 @@ loop-holds c =
     let rest = freeAhead m g (c .pass-to .result) in
     let few : y ≤ g .zones = omega (arith, z .zone-of .ensures, zone-on-map g (s .pre .0 .readable .numbers) d (z .before .bit-at .ensures .1)) in
     let parts : heldFrom g 0 m 0 (g .zones) ≡ early ++ rest =
-    (let n : g .zones ≡ y + (g .zones - y) = omega arith in
-    let x : 0 + y ≡ y = omega arith in
-    ap (heldFrom g 0 m 0) n ∙ held-split g 0 m 0 y (g .zones - y) ∙ ap (λ (i : ℕ). zones ++ heldFrom g 0 m i (g .zones - y)) x
-    ∙ ap (λ (q : List Pair). zones ++ q) (sym (f .from-zone .ensures .all) ∙ c .pass-to .ensures .passed) ∙ sym (append-assoc zones (c .pass-to .ensures .spans) rest)) in
+    held-all g 0 m y (g .zones) few ∙ ap (λ (q : List Pair). zones ++ q) (sym (f .from-zone .ensures .all) ∙ c .pass-to .ensures .passed)
+    ∙ sym (append-assoc zones (c .pass-to .ensures .spans) rest) in
     let ends =
     end-by-append d zones (c .pass-to .ensures .spans)
     (apart-end-by (zoneFrom g 0) (zoneFrom g (0 + y)) d zones (held-apart (s .pre .0) 0 0 y (omega (arith, few))) (zone-before g d y (z .zone-of .ensures))) (c .pass-to .ensures .before) in
