@@ -3,7 +3,7 @@ use mathlib.Core.Bool.{true, false}
 use mathlib.Core.List.{List, [], _∷_, _++_}
 use Prim.Native.Nat.{ℕ}
 use lib.ListN.{replicate}
-use Rattle.geometry.specs.Record.{geometryFrom, geometryOf, floppyDisc, eightZones}
+use Rattle.geometry.specs.Record.{geometryFrom, geometryOf, floppyDisc, eightZones, driveOf}
 use Rattle.checks.specs.Maps.{withBytes, mapA, mapB, mapD}
 use Rattle.edits.specs.Judge as call
 use Rattle.bench.specs.Questions.{Question, record-read, check, list, free, address, sweepObject, sweepFree, counted, countedFree}
@@ -167,15 +167,20 @@ table =
     ∷ row (start (geometryFrom eightZones) 1343) (0 ∷ 0 ∷ 7 ∷ [])
     ∷ row (start (geometryFrom eightZones) 0) (8 ∷ 0 ∷ 0 ∷ [])
     ∷ row (start (geometryFrom eightZones) 1344) (8 ∷ 0 ∷ 0 ∷ [])
-    -- Records at the ends of their ranges: the floppy's; disc_size in whole sectors; idlen 15 and 16; 127 and 128 zones; a zone with
+    -- The same on a drive of 255 zones (document 02, R-4).
+    ∷ row (start (geometryFrom (driveOf 255)) 2) (0 ∷ 0 ∷ 127 ∷ [])
+    ∷ row (start (geometryFrom (driveOf 255)) 16128) (0 ∷ 0 ∷ 128 ∷ [])
+    ∷ row (start (geometryFrom (driveOf 255)) 32129) (0 ∷ 0 ∷ 254 ∷ [])
+    ∷ row (start (geometryFrom (driveOf 255)) 32130) (8 ∷ 0 ∷ 0 ∷ [])
+    -- Records at the ends of their ranges: the floppy's; disc_size in whole sectors; idlen 15 and 16; 255 zones and 0 (R-4); a zone with
     -- room for m bits in zone 0, and with one bit less; as many ids as their bits can name, and more.
     ∷ row (record-read floppyBytes) (0 ∷ 0 ∷ [])
     ∷ row (sizes (geometryOf floppyBytes)) (6880 ∷ 16 ∷ 430 ∷ 819200 ∷ [])
     ∷ row (recordA ((20, 0x01) ∷ [])) (2 ∷ 0 ∷ [])
     ∷ row (recordA ((8, 0x0F) ∷ [])) (0 ∷ 0 ∷ [])
     ∷ row (recordA ((8, 0x10) ∷ [])) (2 ∷ 0 ∷ [])
-    ∷ row (recordA ((8, 0x0F) ∷ (13, 0x7F) ∷ [])) (0 ∷ 0 ∷ [])
-    ∷ row (recordA ((8, 0x0F) ∷ (13, 0x80) ∷ [])) (2 ∷ 0 ∷ [])
+    ∷ row (recordA ((8, 0x0F) ∷ (13, 0xFF) ∷ [])) (0 ∷ 0 ∷ [])
+    ∷ row (recordA ((8, 0x0F) ∷ (13, 0x00) ∷ [])) (2 ∷ 0 ∷ [])
     ∷ row (recordA ((9, 0x0C) ∷ [])) (0 ∷ 0 ∷ [])
     ∷ row (recordA ((14, 0x14) ∷ (15, 0x06) ∷ (21, 0x30) ∷ (22, 0x00) ∷ [])) (0 ∷ 0 ∷ [])
     ∷ row (recordA ((14, 0x15) ∷ (15, 0x06) ∷ (21, 0x2C) ∷ (22, 0x00) ∷ [])) (2 ∷ 0 ∷ [])

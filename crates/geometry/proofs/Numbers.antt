@@ -13,7 +13,7 @@ use Rattle.bits.proofs.Tests.{both}
 use Rattle.bits.proofs.Below.{below, at}
 use Rattle.geometry.specs.declared.DiscRecord.{DiscRecord}
 use Rattle.geometry.specs.declared.Geometry.{Geometry}
-use Rattle.geometry.specs.Record.{clusterOf, roundUp, recordIn, geometryFrom, geometryIn, floppyDisc}
+use Rattle.geometry.specs.Record.{clusterOf, roundUp, recordIn, geometryFrom, geometryIn, floppyDisc, driveOf}
 use Rattle.geometry.specs.Ranges.{FieldRules, GeometryRules, RecordRules, recordFits}
 use Rattle.geometry.specs.Accepted.{SmallNumbers, AcceptedGeometry}
 use Rattle.geometry.proofs.Rules.{test-gives-rules}
@@ -168,6 +168,40 @@ floppy = (refl, refl, refl, refl)
 
 pub divisor : let g = geometryFrom (floppyDisc 13) in (g .bits ≡ 6880) × (g .shortest ≡ 16) × (g .ids ≡ 491)
 divisor = (refl, refl, refl)
+
+-- "drives with 256-byte sectors and up to 255 zones"
+module _ (n : ℕ) (low : 1 ≤ n) (high : n ≤ 255) where
+  drive-fields : FieldRules (driveOf n)
+  drive-fields =
+      record {
+        sector-low = omega arith;
+        sector-high = omega arith;
+        idlen-low = omega arith;
+        idlen-high = omega arith;
+        unit-low = omega arith;
+        unit-high = omega arith;
+        zones-low = low;
+        zones-high = high;
+        spare-low = omega arith;
+      }
+
+  drive-together : GeometryRules (geometryFrom (driveOf n))
+  drive-together =
+      record {
+        whole-clusters = refl;
+        room-in-zone-0 = omega arith;
+        enough-ids = omega arith;
+        some-bytes = omega arith;
+        whole-sectors = omega arith;
+        within-map = omega arith;
+      }
+
+pub drives : (r : List ℕ) (n : ℕ) → 1 ≤ n → n ≤ 255 → recordIn r ≡ driveOf n → RecordRules r
+drives r n low high e =
+    record {
+      fields = subst FieldRules (sym e) (drive-fields n low high);
+      together = subst (λ d. GeometryRules (geometryFrom d)) (sym e) (drive-together n low high);
+    }
 
 -- clusters
 pub cluster-parts : (S B : ℕ) → 0 < B → B < S → S % B ≡ 0 → clusterOf S B * B ≡ S

@@ -4,7 +4,7 @@ use mathlib.Core.Bool.{true}
 use mathlib.Core.List.{List}
 use Prim.Native.Nat.{ℕ, suc, _*_, _/_, _%_, _<_, _≤_}
 use Rattle.geometry.specs.declared.Geometry.{Geometry}
-use Rattle.geometry.specs.Record.{clusterOf, geometryIn, geometryFrom, floppyDisc, eightZones}
+use Rattle.geometry.specs.Record.{recordIn, clusterOf, geometryIn, geometryFrom, floppyDisc, eightZones, driveOf}
 use Rattle.geometry.specs.Ranges.{RecordRules, recordFits}
 use Rattle.geometry.specs.Accepted.{AcceptedGeometry}
 use Rattle.geometry.specs.Places.{firstBit, endBit, discBit, blockBit, zoneOf, zoneFrom, zoneEnd, discBits, startZone}
@@ -37,3 +37,5 @@ pub record GeometryLaws : Type 0 where
   pub divisor : let g = geometryFrom (floppyDisc 13) in (g .bits ≡ 6880) × (g .shortest ≡ 16) × (g .ids ≡ 491)
   -- "Id 690 with 168 ids per zone: start zone 4 (document 000)"
   pub object-690 : let g = geometryFrom eightZones in (g .ids ≡ 168) × (startNumbers (startOf g 1 690) ≡ (0, 0, 4))
+  -- "drives with 256-byte sectors and up to 255 zones" (document 02, R-4): the rules hold for every number of zones
+  pub drives : (r : List ℕ) (n : ℕ) → 1 ≤ n → n ≤ 255 → recordIn r ≡ driveOf n → RecordRules r

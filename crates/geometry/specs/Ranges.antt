@@ -9,10 +9,11 @@ use Rattle.geometry.specs.declared.DiscRecord.{DiscRecord}
 use Rattle.geometry.specs.declared.Geometry.{Geometry}
 use Rattle.geometry.specs.Record.{recordIn, geometryIn}
 
--- the two bounds that later editions of the format raise
+-- "nzones 1 to 127"; "Raise nzones from 127 to 255" (document 02, R-4)
 abbrev pub mostZones : ℕ
-mostZones = 127
+mostZones = 255
 
+-- "idlen from log2secsize+3 to 15"
 abbrev pub longestId : ℕ
 longestId = 15
 
@@ -27,7 +28,7 @@ pub record FieldRules (r : DiscRecord) : Type 0 where
   -- "log2bpmb 7 to 12"
   pub unit-low : 7 ≤ r .logunit
   pub unit-high : r .logunit ≤ 12
-  -- "nzones 1 to 127"
+  -- "nzones 1 to 127", by R-4 to 255
   pub zones-low : 1 ≤ r .zones
   pub zones-high : r .zones ≤ mostZones
   -- "zone_spare at least 32"

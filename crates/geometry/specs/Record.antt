@@ -72,3 +72,7 @@ floppyDisc n = record { logsector = 10; idlen = n; logunit = 7; zones = 1; spare
 
 abbrev pub eightZones : DiscRecord
 eightZones = record { logsector = 8; idlen = 11; logunit = 10; zones = 8; spare = 32; size = 12582912 }
+
+-- "drives with 256-byte sectors and up to 255 zones" (document 02, R-4): one of n zones, all of its map on the disc
+abbrev pub driveOf : ℕ → DiscRecord
+driveOf n = record { logsector = 8; idlen = 15; logunit = 10; zones = n; spare = 32; size = (n * 2016 - 480) * 1024 }

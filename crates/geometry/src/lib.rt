@@ -62,7 +62,7 @@ pub struct BlockBit(pub usize);
 pub struct DiscBit(pub u32);
 
 // The most zones and the longest id that are accepted.
-const MOST_ZONES: usize = 127;
+const MOST_ZONES: usize = 255;
 
 const LONGEST_ID: usize = 15;
 

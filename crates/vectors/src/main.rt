@@ -26,13 +26,13 @@ fn next_case() -> bool {
     true
 }
 
-// A case with its buffers, each as long as twice the longest map, list or image of a stored case: the part that the call works on, and after
-// it the same as it was read.
+// A case with its buffers, each as long as twice the longest map (255 blocks of 1,024 bytes), or list or image of a stored case: the part
+// that the call works on, and after it the same as it was read.
 fn run_case(head: &[u8; 32]) {
-    let mut map = [0u8; 65536];
+    let mut map = [0u8; 522240];
     let mut list = [0u32; 2048];
     let mut image = [0u8; 32768];
-    let m = at_most(number(head, 16), 32768);
+    let m = at_most(number(head, 16), 261120);
     let k = at_most(number(head, 20), 1024);
     let n = at_most(number(head, 24), 16384);
     run_parts(head, &mut map, m, &mut list, k, &mut image, n);

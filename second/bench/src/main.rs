@@ -22,7 +22,7 @@ use std::process::ExitCode;
 use std::time::Duration;
 
 use machine::machine;
-use maps::{Size, NAMES, ZONES};
+use maps::{sizes, Size, NAMES};
 use product::Calls;
 use sides::{sides, Side};
 use table::print_sweeps;
@@ -74,12 +74,11 @@ fn main() -> ExitCode {
 
 /// Measures all calls and prints their tables; false where two sides differ.
 fn print_calls(before: Option<Calls>, plan: &Plan) -> bool {
-    let compared = before.is_some();
-    let sides = sides(before);
-    let sizes: Vec<Size> = ZONES.into_iter().map(Size::new).collect();
-    for size in &sizes {
+    let sizes = sizes();
+    let sides: Vec<_> = sizes.iter().map(|size| sides_of(before, size)).collect();
+    for (size, sides) in sizes.iter().zip(&sides) {
         for (name, cases) in NAMES.iter().zip(&size.cases) {
-            if !cases.iter().all(|case| agree(&sides, case)) {
+            if !cases.iter().all(|case| agree(sides, case)) {
                 println!("{} zones, {name}: the answers differ", size.zones);
                 return false;
             }
@@ -90,11 +89,23 @@ fn print_calls(before: Option<Calls>, plan: &Plan) -> bool {
     print_how(&times, plan);
     print_ratios(&sizes, &times);
     print_growth(&sizes, &times);
-    if compared {
+    if before.is_some() {
         print_change(&sizes, &times);
     }
     println!();
     true
+}
+
+/// All who make the calls of a size. An earlier build is none of them where it
+/// refuses the maps with 2, as one from before R-4 of document 02 does those of
+/// 255 zones.
+fn sides_of(before: Option<Calls>, size: &Size) -> Vec<Side> {
+    let knows = |calls: &Calls| {
+        let check = &size.cases[0][0];
+        let answer = calls.call(check, &mut check.map.clone(), &mut [], &mut []);
+        answer.number != 2
+    };
+    sides(before.filter(knows))
 }
 
 /// Reads the arguments.
@@ -124,12 +135,14 @@ fn arguments() -> Result<Wanted, String> {
     Ok(wanted)
 }
 
-/// The lowest times by size and call.
-fn measure(sides: &[Side], sizes: &[Size], plan: &Plan) -> Vec<Vec<Lowest>> {
-    let row = |size: &Size| NAMES.map(|_| Lowest::new(sides.len(), size.maps())).into();
-    let mut times: Vec<Vec<Lowest>> = sizes.iter().map(row).collect();
+/// The lowest times by size and call. Each size has its own sides.
+fn measure(sides: &[Vec<Side>], sizes: &[Size], plan: &Plan) -> Vec<Vec<Lowest>> {
+    let mut times: Vec<Vec<Lowest>> = Vec::new();
+    for (size, sides) in sizes.iter().zip(sides) {
+        times.push(NAMES.map(|_| Lowest::new(sides.len(), size.maps())).into());
+    }
     for _ in 0..plan.passes {
-        for (size, row) in sizes.iter().zip(&mut times) {
+        for ((size, sides), row) in sizes.iter().zip(sides).zip(&mut times) {
             for (cases, lowest) in size.cases.iter().zip(row) {
                 lowest.add(sides, cases, plan.time);
             }
@@ -145,14 +158,16 @@ fn print_how(times: &[Vec<Lowest>], plan: &Plan) {
         "Lowest time of {} to {} rounds (passes over all calls: {}). A round makes the call on each map of a \
          size, by the product and then by the reference, each on a fresh copy of the same input; only the \
          call is timed. A figure is the mean over the maps of each one's lowest time. Small maps are several, \
-         with 96 to 127 zones together. Both sides gave the same answers and bytes before.",
+         with 96 to 127 zones together; of 127 and of 255 zones there is one. Both sides gave the same \
+         answers and bytes before.",
         rounds().min().unwrap_or(0),
         rounds().max().unwrap_or(0),
         plan.passes
     );
     println!();
     println!(
-        "Blocks of 1,024 bytes, idlen 15, 1,024 bytes a map bit, 4,128 bits a zone. The object listed, \
+        "Blocks of 1,024 bytes, idlen 15, 1,024 bytes a map bit, 4,128 bits a zone; the last row, of the most \
+         zones there can be, has blocks of 256 bytes and 2,016 bits a zone. The object listed, \
          released and placed has two pieces in every zone. sweep_free has a window of 1 MiB. The claim's \
          only hole is the last of the disc; ids begin anew in each zone, and in `packed` they go up from \
          3 without a gap."
@@ -192,7 +207,8 @@ fn print_ratios(sizes: &[Size], times: &[Vec<Lowest>]) {
 
 fn print_growth(sizes: &[Size], times: &[Vec<Lowest>]) {
     println!(
-        "The product's microseconds a zone: even down a column where time grows with the map."
+        "The product's microseconds a zone: even down a column where time grows with the map. The last row's \
+         blocks are a quarter as long, with about half as many fragments."
     );
     println!();
     print_head(&["zones", "fragments a zone", "used %"]);
@@ -214,11 +230,15 @@ fn print_change(sizes: &[Size], times: &[Vec<Lowest>]) {
     println!();
     println!(
         "Microseconds: after / before = ratio; after is the product, before the earlier build, which was called \
-         in the same rounds and gave the same answers and bytes."
+         in the same rounds and gave the same answers and bytes. Maps that it refuses with 2, as more than 127 \
+         zones were once, are left out."
     );
     println!();
     print_head(&["zones"]);
     for (size, row) in sizes.iter().zip(times) {
+        if !row[0].has_before() {
+            continue;
+        }
         print!("| {} |", size.zones);
         for lowest in row {
             print_ratio(lowest.product_microseconds(), lowest.before_microseconds());

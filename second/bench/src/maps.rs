@@ -5,8 +5,12 @@ use reference::generate::{build, Rng};
 use reference::geometry::{DiscRecord, Geometry};
 use reference::map::{check, Owner};
 
-/// The numbers of zones measured.
-pub const ZONES: [u8; 5] = [1, 2, 8, 32, 127];
+/// The numbers of zones of 1,024-byte blocks measured.
+const ZONES: [u8; 5] = [1, 2, 8, 32, 127];
+
+/// The most zones there can be (R-4 of document 02), measured with blocks of 256
+/// bytes.
+const MOST_ZONES: u8 = 255;
 
 /// 127 zones of 1,024-byte blocks leave 258 ids a zone, hence 4,128 of the
 /// 8,192 bits. All sizes spare the same, so that their zones can be compared.
@@ -29,6 +33,10 @@ const OBJECT_2: usize = 32;
 /// These owned fragments of each zone belong to one object, which is the one
 /// listed, released and placed: it touches every zone.
 const SPREAD: [usize; 2] = [8, 20];
+
+/// The same with 256-byte blocks. Zone 0 has 1,536 bits there, so at least seven
+/// owned fragments: one for every `OWNED.1 + HOLE.1` bits, and the last.
+const SPREAD_IN_SMALL: [usize; 2] = [2, 5];
 
 /// The bytes of disc image that are swept, from the middle of the disc.
 pub const WINDOW: usize = 1 << 20;
@@ -71,8 +79,22 @@ impl Size {
     /// Small maps are several, with as many zones together as the largest
     /// has: a processor learns the branches of one small map by heart, and
     /// the rounds would then show a speed that no single call has.
-    pub fn new(nzones: u8) -> Size {
-        let (record, geometry) = record(nzones);
+    fn new(nzones: u8) -> Size {
+        Size::with_maps(record(nzones), ZONES[ZONES.len() - 1] / nzones)
+    }
+
+    /// One map of the most zones, in blocks of 256 bytes.
+    fn most_zones() -> Size {
+        let record = DiscRecord {
+            log2secsize: 8,
+            zone_spare: 32,
+            ..record(MOST_ZONES)
+        };
+        Size::with_maps(whole_disc(record), 1)
+    }
+
+    fn with_maps(record: DiscRecord, maps: u8) -> Size {
+        let geometry = accepted(&record);
         let mut size = Size {
             zones: geometry.nzones,
             map_bytes: geometry.nzones * geometry.sector_size,
@@ -81,7 +103,7 @@ impl Size {
             disc_bits: geometry.disc_bits(),
             cases: Default::default(),
         };
-        for seed in 0..ZONES[ZONES.len() - 1] / nzones {
+        for seed in 0..maps {
             size.add_map(&record, &geometry, seed as u64);
         }
         size
@@ -108,25 +130,43 @@ impl Size {
     }
 }
 
+/// All sizes, in the order of their rows.
+pub fn sizes() -> Vec<Size> {
+    let mut sizes: Vec<Size> = ZONES.into_iter().map(Size::new).collect();
+    sizes.push(Size::most_zones());
+    sizes
+}
+
 /// The record of a disc with so many zones.
-fn record(nzones: u8) -> (DiscRecord, Geometry) {
-    let record = DiscRecord {
+fn record(nzones: u8) -> DiscRecord {
+    whole_disc(DiscRecord {
         log2secsize: 10,
         idlen: 15,
         log2bpmb: 10,
         nzones,
         zone_spare: ZONE_SPARE,
-        // Every bit of the map stands for a part of the disc.
-        disc_size: (nzones as u32 * (8_192 - ZONE_SPARE as u32) - 480) << 10,
-    };
-    let geometry = Geometry::accept(&record).expect("a record inside its ranges");
-    (record, geometry)
+        disc_size: 0,
+    })
 }
 
-/// A map of the largest size.
+/// The record with a disc size by which every bit of the map stands for a part
+/// of the disc.
+fn whole_disc(record: DiscRecord) -> DiscRecord {
+    let zone_bits = (8 << record.log2secsize) - record.zone_spare as u32;
+    DiscRecord {
+        disc_size: (record.nzones as u32 * zone_bits - 480) << record.log2bpmb,
+        ..record
+    }
+}
+
+fn accepted(record: &DiscRecord) -> Geometry {
+    Geometry::accept(record).expect("a record inside its ranges")
+}
+
+/// A map of the largest size with 1,024-byte blocks.
 pub fn hard_disc(seed: u64) -> Vec<u8> {
-    let (record, geometry) = record(ZONES[ZONES.len() - 1]);
-    make_map(&record, &geometry, seed, Numbers::ByZone)
+    let record = record(ZONES[ZONES.len() - 1]);
+    make_map(&record, &accepted(&record), seed, Numbers::ByZone)
 }
 
 /// The same fragments whatever the numbers, if the seed is the same.
@@ -185,11 +225,19 @@ fn make_zone(
 
 /// The owner of a zone's owned fragment with this index.
 fn owner(geometry: &Geometry, index: usize, next_id: &mut u32) -> Owner {
-    if SPREAD.contains(&index) {
+    if spread(geometry).contains(&index) {
         return Owner::Object(spread_id(geometry));
     }
     *next_id += 1;
     Owner::Object(*next_id - 1)
+}
+
+/// Which owned fragments of each zone belong to the spread object.
+fn spread(geometry: &Geometry) -> [usize; 2] {
+    match geometry.sector_size {
+        256 => SPREAD_IN_SMALL,
+        _ => SPREAD,
+    }
 }
 
 /// The spread object has the middle zone's last number, so that its pieces
@@ -214,7 +262,7 @@ fn calls(geometry: &Geometry, map: &[u8], packed: &[u8]) -> [Case; NAMES.len()] 
 
     let release = case(Call::Release, map);
     let released = release.run();
-    let pieces = SPREAD.len() * geometry.nzones;
+    let pieces = spread(geometry).len() * geometry.nzones;
     assert_eq!(released.values[0], pieces as u64, "a zone lacks a piece");
     let mut place = case(Call::Place, &released.map);
     place.list = released.list[..2 * pieces].to_vec();

@@ -44,6 +44,11 @@ impl Lowest {
         mean_microseconds(&self.times[0])
     }
 
+    /// Whether the earlier build was measured too.
+    pub fn has_before(&self) -> bool {
+        self.times.len() > 2
+    }
+
     /// Those of the side after the product, which is the earlier build where
     /// there is one.
     pub fn before_microseconds(&self) -> f64 {

@@ -323,7 +323,8 @@ fn print_row(name: &str, counts: &[u64; 18]) {
 /// Compares every call of the seeds, and some maps through the small program.
 fn compare(seeds: std::ops::Range<u64>, program: &mut Option<Program>) -> Tally {
     let sizes = Sizes {
-        map: 130_048,
+        // 255 zones of 1,024 bytes.
+        map: 261_120,
         list: 200_000,
         image: 65_536,
     };

@@ -3,8 +3,9 @@
 use std::io::{self, ErrorKind, Read, Write};
 use std::process::{Command, Stdio};
 
-use reference::generate::{map_a, map_b};
+use reference::generate::{map_a, map_b, map_of_zones};
 use reference::lines::{lines, LONGEST_MAP};
+use reference::map::check;
 
 pub struct Program {
     pub path: String,
@@ -45,10 +46,15 @@ impl Program {
         Ok(())
     }
 
-    /// Maps A and B, no bytes, and lengths around the longest that is read.
+    /// Maps A and B, no bytes, lengths around the longest that is read, and the
+    /// two valid maps of many zones nearest to it. R-4 of document 02 does not
+    /// raise that length, so that the longer of them is refused.
     pub fn compare_fixed(&mut self) -> io::Result<()> {
         let mut long = map_a();
         long.resize(LONGEST_MAP + 1, 0);
+        let (shorter, longer) = (map_of_zones(8, 255), map_of_zones(9, 129));
+        assert!(shorter.len() <= LONGEST_MAP && longer.len() > LONGEST_MAP);
+        assert!(check(&shorter).is_ok() && check(&longer).is_ok());
         for (name, map) in [
             ("map A", &map_a()[..]),
             ("map B", &map_b()[..]),
@@ -59,6 +65,8 @@ impl Program {
                 "a byte more, a record outside its ranges",
                 &vec![0; LONGEST_MAP + 1][..],
             ),
+            ("a map of 255 zones of 256 bytes", &shorter[..]),
+            ("a map of 129 zones of 512 bytes", &longer[..]),
         ] {
             self.compare(name, map)?;
         }

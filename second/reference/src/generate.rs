@@ -59,10 +59,21 @@ pub struct Sizes {
 
 // ---------------------------------------------------------------- valid maps
 
+/// The most zones there can be ("Raise nzones from 127 to 255", R-4 of document
+/// 02), and the longest zone of which so many have at most 2^15 ids.
+const MOST_ZONES: usize = 255;
+const LONGEST_OF_MANY: usize = 128 * 16 + 15;
+
 /// A disc record inside its ranges, on which a valid map can stand.
 pub fn disc_record(rng: &mut Rng, largest_map: usize) -> DiscRecord {
+    // Few records leave room for more than 127 zones, so some are made for it.
+    let many_zones = largest_map >= MOST_ZONES * 256 && rng.percent(20);
     let log2secsize = rng.pick(&[8usize, 8, 8, 9, 10]);
-    let idlen = rng.between(log2secsize + 3, 15);
+    let idlen = if many_zones {
+        15
+    } else {
+        rng.between(log2secsize + 3, 15)
+    };
     let log2bpmb = rng.between(7, 12);
     let sector_size = 1usize << log2secsize;
     let k = if log2bpmb < log2secsize {
@@ -74,7 +85,10 @@ pub fn disc_record(rng: &mut Rng, largest_map: usize) -> DiscRecord {
 
     // Z: the largest, near it, near the smallest, anywhere, or one that makes
     // P a power of two, so that P*nzones can be 2^idlen.
-    let largest = 8 * sector_size - 32;
+    let mut largest = 8 * sector_size - 32;
+    if many_zones {
+        largest = largest.min(LONGEST_OF_MANY) / k * k;
+    }
     let smallest = 480 + m;
     let mut power_of_two = false;
     let mut zone_bits = match rng.below(10) {
@@ -94,17 +108,11 @@ pub fn disc_record(rng: &mut Rng, largest_map: usize) -> DiscRecord {
     let ids_per_zone = zone_bits / (idlen + 1);
 
     let by_ids = (1 << idlen) / ids_per_zone;
-    let most = by_ids.min(127).min(largest_map / sector_size).max(1);
+    let most = by_ids.min(MOST_ZONES).min(largest_map / sector_size).max(1);
     let nzones = if power_of_two && by_ids <= most {
         by_ids
     } else {
-        match rng.below(20) {
-            0..=5 => 1,
-            6..=13 => rng.between(2, 4),
-            14..=17 => rng.between(5, 12),
-            _ => rng.between(1, most),
-        }
-        .min(most)
+        some_nzones(rng, most, many_zones)
     };
 
     // Where the disc ends: the middle zone's first m bits must be on it.
@@ -142,6 +150,22 @@ pub fn disc_record(rng: &mut Rng, largest_map: usize) -> DiscRecord {
         zone_spare: (8 * sector_size - zone_bits) as u16,
         disc_size: disc_size as u32,
     }
+}
+
+/// A number of zones up to `most`: mostly few, or from 128 on, and then 255 about
+/// every second time.
+fn some_nzones(rng: &mut Rng, most: usize, many: bool) -> usize {
+    let nzones = if many {
+        rng.between(128, 2 * MOST_ZONES - 128)
+    } else {
+        match rng.below(20) {
+            0..=5 => 1,
+            6..=13 => rng.between(2, 4),
+            14..=17 => rng.between(5, 12),
+            _ => rng.between(1, most),
+        }
+    };
+    nzones.min(most)
 }
 
 /// Builds a map from owners and lengths, zone by zone; carried bytes are 0,
@@ -369,7 +393,7 @@ fn damage_length(rng: &mut Rng, map: &mut Vec<u8>, geometry: &Geometry) {
         6 => rng.below(whole),
         7 => whole + rng.below(300),
         _ => {
-            let nzones = rng.between(1, 127) as u8;
+            let nzones = rng.between(1, MOST_ZONES) as u8;
             map[13] = nzones;
             repair(map, geometry.sector_size);
             whole
@@ -394,7 +418,8 @@ fn damage_record(rng: &mut Rng, map: &mut [u8], geometry: &Geometry) {
         4 => record.idlen = rng.pick(&[0, 10, 11, 255]),
         5 => record.log2bpmb = rng.pick(&[6, 13]),
         6 => record.log2bpmb = rng.pick(&[0, 7, 12, 255]),
-        7 => record.nzones = rng.pick(&[0, 128, 255]),
+        // 0 is outside; 255 is inside, but may break the rule on P*nzones.
+        7 => record.nzones = rng.pick(&[0, 0, 255]),
         8 => record.zone_spare = 31,
         9 => record.zone_spare = 32 - k as u16,
         10 => record.zone_spare = rng.pick(&[0, 16, 24]),
@@ -406,9 +431,10 @@ fn damage_record(rng: &mut Rng, map: &mut [u8], geometry: &Geometry) {
         }
         14 => record.zone_spare = rng.pick(&[65_535, 32_768, whole_block as u16, 8_192, 8_191]),
         15 => {
-            // P*nzones above 2^idlen, where that takes at most 127 zones.
+            // P*nzones above 2^idlen, where that takes at most 255 zones. A
+            // byte holds no more, so that a higher number stays at 255.
             let nzones = (1 << geometry.idlen) / geometry.ids_per_zone + 1;
-            record.nzones = nzones.min(128) as u8;
+            record.nzones = nzones.min(MOST_ZONES) as u8;
         }
         16 => record.disc_size = 0,
         17 => record.disc_size -= rng.between(1, geometry.sector_size - 1) as u32,
@@ -1198,6 +1224,35 @@ pub fn map_of_eight_zones() -> Vec<u8> {
     let mut zones = vec![vec![(Owner::Free, 2_016)]; 8];
     zones[0] = vec![(Owner::Free, 1_536)];
     zones[4] = vec![(Owner::Object(2), 12), (Owner::Free, 2_004)];
+    build(&record, &zones)
+}
+
+/// Up to 255 zones of blocks of 2^log2secsize bytes (R-4 of document 02). Each
+/// has an object of its own, one bit longer than that of the zone before, and
+/// then a free fragment.
+pub fn map_of_zones(log2secsize: u8, nzones: u8) -> Vec<u8> {
+    let zone_bits = (8 << log2secsize) - 32;
+    let record = DiscRecord {
+        log2secsize,
+        idlen: 15,
+        log2bpmb: 10,
+        nzones,
+        zone_spare: 32,
+        disc_size: (nzones as u32 * zone_bits - 480) * 1_024,
+    };
+    let geometry = Geometry::accept(&record).expect("a record inside its ranges");
+    let zone = |zone: usize| {
+        let id = geometry.ids_per_zone * zone + 7;
+        let mut parts = vec![(Owner::Object(id as u32), 16 + zone)];
+        if zone == geometry.middle_zone() {
+            parts.insert(0, (Owner::Object(2), 16));
+        }
+        let owned: usize = parts.iter().map(|(_, length)| length).sum();
+        let bits = geometry.end_block_bit() - geometry.first_block_bit(zone);
+        parts.push((Owner::Free, bits - owned));
+        parts
+    };
+    let zones: Vec<_> = (0..geometry.nzones).map(zone).collect();
     build(&record, &zones)
 }
 

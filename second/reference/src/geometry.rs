@@ -78,7 +78,9 @@ impl Geometry {
         if !(7..=12).contains(&record.log2bpmb) {
             return None;
         }
-        if !(1..=127).contains(&record.nzones) {
+        // "nzones 1 to 127", and R-4 of document 02: "Raise nzones from 127 to
+        // 255". A byte holds no more, so only 0 is left outside.
+        if record.nzones == 0 {
             return None;
         }
         if record.zone_spare < 32 {

@@ -210,6 +210,35 @@ fn floppy_of_800k() {
     assert!(check(&map_floppy()).is_ok());
 }
 
+/// R-4 of document 02: "Put 255 and, for record offset 9, the value 0 into the
+/// examples"; "the rule on P*nzones stays".
+#[test]
+fn zones_up_to_255() {
+    let record = |log2secsize, nzones| DiscRecord {
+        log2secsize,
+        idlen: 15,
+        log2bpmb: 10,
+        nzones,
+        zone_spare: 32,
+        disc_size: 1_024,
+    };
+    assert_eq!(Geometry::accept(&record(8, 0)), None);
+    for nzones in 1..=255 {
+        let geometry = Geometry::accept(&record(8, nzones)).unwrap();
+        assert_eq!(geometry.ids(), 126 * nzones as usize);
+        assert_eq!(geometry.start_zone(2), Ok(nzones as usize / 2));
+    }
+    let most = Geometry::accept(&record(8, 255)).unwrap();
+    assert_eq!(most.start_zone(200 * 126), Ok(200));
+    assert_eq!(most.start_zone(255 * 126 - 1), Ok(254));
+    assert_eq!(most.start_zone(255 * 126), Err(PLAIN(8)));
+    // 254 ids in each zone of 512 bytes, 510 in each of 1,024.
+    for (log2secsize, most) in [(9, 129), (10, 64)] {
+        assert!(Geometry::accept(&record(log2secsize, most)).is_some());
+        assert!(Geometry::accept(&record(log2secsize, most + 1)).is_none());
+    }
+}
+
 #[test]
 fn carry_after_word_16_of_map_b() {
     // A sum without that carry is one less in its lowest byte.

@@ -17,9 +17,12 @@ const SIZES: Sizes = Sizes {
     image: 8_192,
 };
 
+/// 255 zones of 1,024 bytes.
+const LARGEST_MAP: usize = 261_120;
+
 fn generated(seed: u64) -> (Rng, Vec<u8>) {
     let mut rng = Rng::new(seed);
-    let largest = if seed % 40 == 0 { 130_048 } else { 8_192 };
+    let largest = if seed % 40 == 0 { LARGEST_MAP } else { 8_192 };
     let record = disc_record(&mut rng, largest);
     let map = valid_map(&mut rng, &record);
     (rng, map)
@@ -59,7 +62,7 @@ fn generator_reaches_the_geometries() {
     let mut seen = BTreeMap::new();
     for seed in 0..3_000 {
         let mut rng = Rng::new(seed);
-        let record = disc_record(&mut rng, 130_048);
+        let record = disc_record(&mut rng, LARGEST_MAP);
         let geometry = Geometry::accept(&record).unwrap();
         let end = geometry.disc_end_bit();
         let mut see = |what: &'static str, is: bool| {
@@ -88,11 +91,27 @@ fn generator_reaches_the_geometries() {
             "smallest Z",
             geometry.zone_bits == 480 + geometry.shortest_fragment,
         );
-        see("127 zones", geometry.nzones == 127);
-        see("one zone", geometry.nzones == 1);
     }
     for (what, count) in &seen {
         assert!(*count > 0, "never: {what}");
+    }
+}
+
+/// "Raise nzones from 127 to 255" (R-4 of document 02), for every sector size.
+#[test]
+fn generator_reaches_the_numbers_of_zones() {
+    let mut seen: BTreeMap<(usize, usize), u32> = BTreeMap::new();
+    for seed in 0..3_000 {
+        let record = disc_record(&mut Rng::new(seed), LARGEST_MAP);
+        let geometry = Geometry::accept(&record).unwrap();
+        let zones = (geometry.sector_size, geometry.nzones);
+        *seen.entry(zones).or_insert(0) += 1;
+    }
+    for sector_size in [256, 512, 1_024] {
+        assert!(seen.contains_key(&(sector_size, 1)), "one zone");
+        assert!(seen.contains_key(&(sector_size, 255)), "255 zones");
+        let many = (sector_size, 128)..(sector_size, 255);
+        assert!(seen.range(many).count() > 5, "128 to 254 zones");
     }
 }
 
@@ -304,6 +323,22 @@ fn any_map_is_judged_without_a_panic() {
             assert!((1..=7).contains(&refusal.number));
         }
     }
+}
+
+/// "for record offset 9, the value 0" (R-4 of document 02): refused with 2 in
+/// every map that is not refused for being under 64 bytes.
+#[test]
+fn no_zones_are_refused_with_2() {
+    let mut refused = 0;
+    for seed in 0..6_000 {
+        let mut rng = Rng::new(seed);
+        let map = any_map(&mut rng, 2_048);
+        if map.len() >= 64 && map[4 + 9] == 0 {
+            assert_eq!(check(&map).unwrap_err().number, 2, "seed {seed}");
+            refused += 1;
+        }
+    }
+    assert!(refused > 10, "{refused}");
 }
 
 #[test]

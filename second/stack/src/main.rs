@@ -81,7 +81,8 @@ fn measured() -> Vec<Row> {
         measure(&mut stack, &mut rows, &on, &case);
     }
     let sizes = Sizes {
-        map: 130_048,
+        // 255 zones of 1,024 bytes.
+        map: 261_120,
         list: 200_000,
         image: 65_536,
     };

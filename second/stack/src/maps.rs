@@ -66,27 +66,30 @@ pub struct Subject {
 }
 
 /// Records with as many short fragments to a zone as they can have: every
-/// block size and id length, one zone and several.
+/// block size and id length, one zone and several, and once as many zones as
+/// there can be (255, by R-4 of document 02).
 fn records() -> Vec<DiscRecord> {
     let mut records = Vec::new();
-    for log2secsize in 8..=10u8 {
-        let zone_bits = (8 << log2secsize) - 32;
+    for log2secsize in 8..=10 {
         for idlen in log2secsize + 3..=15 {
-            for nzones in [1, 2, 5] {
-                records.push(DiscRecord {
-                    log2secsize,
-                    idlen,
-                    // A map bit for each sector: fragments need not be in
-                    // longer clusters.
-                    log2bpmb: log2secsize,
-                    nzones,
-                    zone_spare: 32,
-                    disc_size: (nzones as u32 * zone_bits - 480) << log2secsize,
-                });
-            }
+            records.extend([1, 2, 5].map(|nzones| record(log2secsize, idlen, nzones)));
         }
     }
+    records.push(record(8, 15, 255));
     records
+}
+
+fn record(log2secsize: u8, idlen: u8, nzones: u8) -> DiscRecord {
+    let zone_bits = (8 << log2secsize) - 32;
+    DiscRecord {
+        log2secsize,
+        idlen,
+        // A map bit for each sector: fragments need not be in longer clusters.
+        log2bpmb: log2secsize,
+        nzones,
+        zone_spare: 32,
+        disc_size: (nzones as u32 * zone_bits - 480) << log2secsize,
+    }
 }
 
 /// A zone of shortest fragments, the last one longer where bits are left.

@@ -32,7 +32,9 @@ impl Record {
         Ok(record)
     }
 
-    /// The record in zone 0's first 64 bytes, if it is inside its ranges.
+    /// The record in zone 0's first 64 bytes, if it is inside its ranges. For
+    /// nzones that is 1 to 255, whatever the sector size: document 01 says "1 to
+    /// 127", and R-4 of document 02 "Raise nzones from 127 to 255".
     fn accept(head: &[u8; 64]) -> Option<Record> {
         let (log2secsize, idlen, log2bpmb, nzones) = (head[4], head[8], head[9], head[13]);
         let zone_spare = u16::from_le_bytes([head[14], head[15]]) as usize;
@@ -40,7 +42,7 @@ impl Record {
         let in_range = (8..=10).contains(&log2secsize)
             && (log2secsize + 3..=15).contains(&idlen)
             && (7..=12).contains(&log2bpmb)
-            && (1..=127).contains(&nzones)
+            && (1..=255).contains(&nzones)
             && zone_spare >= 32;
         if !in_range {
             return None;

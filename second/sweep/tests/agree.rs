@@ -12,7 +12,8 @@ const PROGRAMS: [(&str, Sweep); 2] = [
     ("fast", sweep::fast::sweep_free),
 ];
 
-const LARGEST_MAP: usize = 130_048;
+/// 255 zones of 1,024 bytes.
+const LARGEST_MAP: usize = 261_120;
 
 /// Makes one sweep by all three, and answers the refusal's number or 0.
 fn agree(seed: u64, map: &[u8], image: &[u8], first: u64, fill: u8) -> usize {

@@ -1,7 +1,7 @@
 -- The laws, each from the file that proves it.
 use mathlib.Core.Path.{refl}
 use Rattle.geometry.proofs.Rules.{test-is-rules}
-use Rattle.geometry.proofs.Numbers.{accepted, cluster-parts, cluster-else, floppy, divisor}
+use Rattle.geometry.proofs.Numbers.{accepted, cluster-parts, cluster-else, floppy, divisor, drives}
 use Rattle.geometry.proofs.DiscBits.{block-of-disc, disc-of-block, zone-of-disc, on-the-map, zone-starts, zone-ends}
 use Rattle.geometry.proofs.Starts.{start-by-ids, start-in-range, object-690}
 use Rattle.geometry.proofs.geometry_laws.Statement.{statement}
@@ -26,6 +26,7 @@ returns c =
       floppy = floppy;
       divisor = divisor;
       object-690 = object-690;
+      drives = drives;
     }
 
 pub geometry-laws-spec : {M : Type 1} → statement M

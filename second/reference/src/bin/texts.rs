@@ -3,7 +3,9 @@
 //! many the map has, three bytes each, lowest first) and the stored bytes; the
 //! map's other bytes are 0.
 
-use reference::generate::{build, map_690, map_a, repair_cross_checks, repair_zone_checks};
+use reference::generate::{
+    build, map_690, map_a, map_of_zones, repair_cross_checks, repair_zone_checks,
+};
 use reference::geometry::DiscRecord;
 use reference::lines::{lines, LONGEST_MAP};
 use reference::map::Owner;
@@ -60,12 +62,25 @@ fn long_text() -> Vec<u8> {
             })
             .collect()
     };
-    let zones: Vec<_> = (0..4).map(|z| zone(z, if z == 0 { 128 } else { 168 })).collect();
+    let zones: Vec<_> = (0..4)
+        .map(|z| zone(z, if z == 0 { 128 } else { 168 }))
+        .collect();
     build(&plain(4, 4 * 2_016 - 480), &zones)
 }
 
-fn main() {
-    let out = std::env::args().nth(1).expect("OUTDIR");
+/// 255 zones, the most there can be (R-4 of document 02), with at least two
+/// lines for each: only 256-byte blocks are short enough for the program.
+fn most_zones() -> Vec<u8> {
+    let map = map_of_zones(8, 255);
+    assert_eq!(lines(&map).lines().count(), 2 * 255 + 1);
+    map
+}
+
+/// A map: the stored bytes, its length, and how its text begins.
+type Stored = (Vec<u8>, usize, &'static str);
+
+/// The maps in their order.
+fn stored_maps() -> [Stored; 15] {
     let zone_check = {
         let mut map = three_zones();
         map[512] ^= 2;
@@ -77,8 +92,7 @@ fn main() {
         repair_zone_checks(&mut map, 256);
         map
     };
-    // The stored bytes, the map's length, and how its text begins.
-    let maps: [(Vec<u8>, usize, &str); 14] = [
+    [
         (map_a(), 256, "2 0 12\nfree 12 1524\n"),
         (map_690(), 2_048, "690 0 20\n"),
         (three_zones(), 768, "7 0 20\n"),
@@ -91,13 +105,18 @@ fn main() {
         (changed(|map| map[512 + 255] &= 0x7F), 768, "refused 6 2\n"),
         // Object 3 in the place of object 2.
         (changed(|map| map[256 + 4] ^= 1), 768, "refused 7 1\n"),
+        (most_zones(), 65_280, "7 0 16\nfree 16 1520\n133 1536 17\n"),
         (Vec::new(), LONGEST_MAP, "refused 2 0\n"),
         (Vec::new(), LONGEST_MAP + 1, "refused 1 0\n"),
         // After the longest ones, that nothing of them is left.
         (map_a(), 256, "2 0 12\nfree 12 1524\n"),
-    ];
+    ]
+}
+
+fn main() {
+    let out = std::env::args().nth(1).expect("OUTDIR");
     let (mut stdin, mut stdout) = (Vec::new(), String::new());
-    for (stored, length, begins) in &maps {
+    for (stored, length, begins) in &stored_maps() {
         for number in [stored.len(), *length] {
             stdin.extend_from_slice(&(number as u32).to_le_bytes()[..3]);
         }

@@ -1,7 +1,7 @@
 //! Writes the stored cases: `cases OUTDIR` makes OUTDIR/stdin (the cases) and
 //! OUTDIR/stdout (a line for each). The set is fixed: written-out cases first,
-//! a module for each part of document 01 and for of document 02,
-//! then some of a fixed range of seeds.
+//! a module for each part of document 01 and for of document
+//! 02, then some of a fixed range of seeds.
 //! `cases` alone lists the groups with the lines of OUTDIR/stdout they make.
 
 mod bench;
@@ -19,6 +19,7 @@ mod release;
 mod runs;
 mod seeds;
 mod stretches;
+mod zones;
 
 use std::collections::{BTreeMap, BTreeSet};
 use std::path::Path;
@@ -28,17 +29,18 @@ use calls::{Cases, Group};
 use reference::case::{Call, Case, CALLS};
 use reference::generate::Sizes;
 
-/// The largest map, list and stretch of a stored case.
+/// The largest map, list and stretch of a stored case. The map is the largest
+/// there is: 255 zones of 1,024 bytes.
 const SIZES: Sizes = Sizes {
-    map: 32_768,
+    map: 261_120,
     list: 1_024,
     image: 16_384,
 };
 /// All cases together stay below this many bytes, and are at most so many.
-const MOST_BYTES: usize = 1_500_000;
-const MOST_CASES: usize = 1_000;
+const MOST_BYTES: usize = 3_000_000;
+const MOST_CASES: usize = 1_100;
 
-const MODULES: [(&str, &[Group]); 12] = [
+const MODULES: [(&str, &[Group]); 13] = [
     ("bench", bench::GROUPS),
     ("record", record::GROUPS),
     ("check", check::GROUPS),
@@ -51,6 +53,7 @@ const MODULES: [(&str, &[Group]); 12] = [
     ("runs", runs::GROUPS),
     ("closing", closing::GROUPS),
     ("stretches", stretches::GROUPS),
+    ("zones", zones::GROUPS),
 ];
 
 /// A group's place among the cases: its module and function, its first case,

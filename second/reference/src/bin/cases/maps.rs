@@ -67,6 +67,15 @@ pub fn large_sectors(nzones: u8) -> DiscRecord {
     })
 }
 
+/// Room for 255 zones of 256-byte sectors, with m 16 for an idlen of 15: Z 2016,
+/// k 1, P 126, 1,024 bytes a map bit.
+pub fn many_zones(nzones: u8) -> DiscRecord {
+    whole_disc(DiscRecord {
+        idlen: 15,
+        ..plain(nzones)
+    })
+}
+
 /// Z no multiple of 8: the zone ends after bit 2 of its block's byte 255.
 pub fn odd_zone_end(nzones: u8) -> DiscRecord {
     whole_disc(DiscRecord {
@@ -197,17 +206,13 @@ pub fn four_zones() -> Vec<u8> {
     )
 }
 
-/// 127 zones of 126 ids each; object 9,000, whose start zone is 71, has a
+/// 255 zones of 126 ids each; object 20,000, whose start zone is 158, has a
 /// fragment in every one of them.
-pub fn all_127_zones() -> Vec<u8> {
-    let record = whole_disc(DiscRecord {
-        idlen: 15,
-        ..plain(127)
-    });
-    let mut zones = vec![vec![free(1_984), object(9_000, 32)]; 127];
-    zones[0] = vec![free(1_504), object(9_000, 32)];
-    zones[63] = vec![object(2, 16), object(9_000, 32), free(1_968)];
-    build(&record, &zones)
+pub fn all_255_zones() -> Vec<u8> {
+    let mut zones = vec![vec![free(1_984), object(20_000, 32)]; 255];
+    zones[0] = vec![free(1_504), object(20_000, 32)];
+    zones[127] = vec![object(2, 16), object(20_000, 32), free(1_968)];
+    build(&many_zones(255), &zones)
 }
 
 /// No free fragment at all: objects 2 and 5 fill the only zone.

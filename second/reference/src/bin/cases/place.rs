@@ -32,7 +32,7 @@ groups![
     id_already_there,
     links_are_no_ids,
     bits_past_the_zone,
-    zones_of_127,
+    zones_of_255,
 ];
 
 /// "gives the listed pieces": at a hole's end, in its middle, and all of it.
@@ -310,13 +310,16 @@ fn bits_past_the_zone(cases: &mut Cases) {
     cases.place(&map, 5, &[1_519, 13]).gives(12);
 }
 
-/// "exclusive-ors each with 1 when their number is even": pieces in 126 of 127
-/// zones.
-fn zones_of_127(cases: &mut Cases) {
-    let list: Vec<u32> = (71..127)
-        .chain(0..71)
-        .filter(|zone| *zone != 63)
+/// "exclusive-ors each with 1 when their number is even": pieces in 254 of 255
+/// zones (R-4 of document 02).
+fn zones_of_255(cases: &mut Cases) {
+    let list: Vec<u32> = (158..255)
+        .chain(0..158)
+        .filter(|zone| *zone != 127)
         .flat_map(|zone| [first(zone), 16])
         .collect();
-    cases.place(&all_127_zones(), 9_001, &list).done();
+    let after = cases.place(&all_255_zones(), 20_001, &list).done();
+    let crosses: Vec<u8> = after.iter().skip(3).step_by(256).copied().collect();
+    assert_eq!((crosses[0], crosses[127]), (255 ^ 1, 0));
+    assert_eq!(crosses.iter().filter(|cross| **cross == 1).count(), 253);
 }

@@ -8,6 +8,7 @@ use crate::maps::{clusters_of_eight, clusters_of_four, free, object, plain, with
 
 groups![
     bytes_far_out_of_range,
+    nzones,
     idlen,
     zone_spare,
     zone_in_clusters,
@@ -31,7 +32,7 @@ fn head(cases: &mut Cases, record: DiscRecord, number: u32) {
 }
 
 /// "log2secsize 8 to 10": 40 is 8 for a shift that counts modulo 32. "log2bpmb
-/// 7 to 12": 42 is 10. "nzones 1 to 127": 255 is the most its byte holds.
+/// 7 to 12": 42 is 10.
 fn bytes_far_out_of_range(cases: &mut Cases) {
     let record = DiscRecord {
         log2secsize: 40,
@@ -43,12 +44,19 @@ fn bytes_far_out_of_range(cases: &mut Cases) {
         ..plain(1)
     };
     head(cases, record, 2);
-    let record = DiscRecord {
-        nzones: 255,
-        idlen: 15,
-        ..plain(1)
-    };
-    head(cases, record, 2);
+}
+
+/// "nzones 1 to 127", and "Raise nzones from 127 to 255" (R-4 of document 02):
+/// every value of its byte but 0, here around the old limit and the new one.
+fn nzones(cases: &mut Cases) {
+    for (nzones, number) in [(0, 2), (1, 1), (127, 1), (128, 1), (255, 1)] {
+        let record = DiscRecord {
+            nzones,
+            idlen: 15,
+            ..plain(1)
+        };
+        head(cases, record, number);
+    }
 }
 
 /// "idlen from log2secsize+3": one less for sectors of 512 and 1,024 bytes.
@@ -147,16 +155,16 @@ fn disc_size_in_sectors(cases: &mut Cases) {
 }
 
 /// "disc_size ... at most (nzones*Z - 480)*B": the largest that the other ranges
-/// allow is (127*4143 - 480)*4096 bytes.
+/// allow is (254*2079 - 480)*4096 bytes, with 129 ids in each zone.
 fn disc_size_above_two_to_the_31(cases: &mut Cases) {
-    let whole = (127 * 4_143 - 480) * 4_096;
+    let whole = (254 * 2_079 - 480) * 4_096;
     for (disc_size, number) in [(whole, 1), (whole + 1_024, 2)] {
         let record = DiscRecord {
             log2secsize: 10,
             idlen: 15,
             log2bpmb: 12,
-            nzones: 127,
-            zone_spare: 8_192 - 4_143,
+            nzones: 254,
+            zone_spare: 8_192 - 2_079,
             disc_size,
         };
         head(cases, record, number);
@@ -209,7 +217,6 @@ fn each_rule_broken_alone(cases: &mut Cases) {
     a_with(cases, DiscRecord { log2bpmb: 6, ..small });
     a_with(cases, DiscRecord { log2bpmb: 13, ..small });
     a_with(cases, DiscRecord { nzones: 0, ..small });
-    a_with(cases, DiscRecord { nzones: 128, idlen: 15, ..small });
     a_with(cases, DiscRecord { zone_spare: 31, ..small });
     a_with(cases, DiscRecord { zone_spare: 33, log2bpmb: 7, ..small });
     a_with(cases, DiscRecord { zone_spare: 2_048 - 491, ..small });

@@ -21,7 +21,7 @@ groups![
     ids,
     clusters,
     bits_past_the_zone,
-    all_zones_of_127,
+    all_zones_of_255,
 ];
 
 /// Releases object 5 of one zone; afterwards the free spans are these.
@@ -238,8 +238,18 @@ fn bits_past_the_zone(cases: &mut Cases) {
     cases.release(&map, 5, 2).pairs(&[612, 55]);
 }
 
-/// An object in every one of 127 zones: 1, 2, 3 and then 1 on the cross
-/// checks, and 254 entries from zone 71 on.
-fn all_zones_of_127(cases: &mut Cases) {
-    cases.release(&all_127_zones(), 9_000, 254).done();
+/// An object in every one of 255 zones, the most there can be (R-4 of document
+/// 02): 1, 2, 3 and then 1 on the cross checks, and 510 entries from zone 158 on.
+fn all_zones_of_255(cases: &mut Cases) {
+    let pairs: Vec<u32> = (158..255)
+        .chain(0..158)
+        .flat_map(|zone| match zone {
+            127 => [first(127) + 16, 32],
+            _ => [first(zone + 1) - 32, 32],
+        })
+        .collect();
+    let after = cases.release(&all_255_zones(), 20_000, 510).pairs(&pairs);
+    let crosses: Vec<u8> = after.iter().skip(3).step_by(256).copied().collect();
+    assert_eq!(crosses[..3], [255 ^ 1, 2, 3]);
+    assert_eq!(crosses[3..], [1; 252]);
 }

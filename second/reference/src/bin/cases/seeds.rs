@@ -5,9 +5,17 @@ use std::collections::BTreeMap;
 use reference::case::{Call, Case, Outcome};
 use reference::generate::{play, Sizes};
 
+/// The largest map the seeds are played with. The larger ones there are would
+/// take up most of what is stored; some are written out, in `zones`.
+const LARGEST_MAP: usize = 32_768;
+
 /// A small case for each call and each of its refusals, and a few accepted
 /// ones of each call, one of them large.
 pub fn from_seeds(sizes: &Sizes) -> Vec<Case> {
+    let sizes = &Sizes {
+        map: LARGEST_MAP,
+        ..*sizes
+    };
     let mut taken = Vec::new();
     let mut times: BTreeMap<(Call, u32), usize> = BTreeMap::new();
     let mut larger: BTreeMap<Call, usize> = BTreeMap::new();
@@ -21,7 +29,7 @@ pub fn from_seeds(sizes: &Sizes) -> Vec<Case> {
             let count = times.entry(kind).or_insert(0);
             let small = bytes <= 3_200 && *count < wanted;
             let large = outcome.number == 0
-                && (16_000..40_000).contains(&bytes)
+                && (8_000..16_000).contains(&bytes)
                 && larger.get(&case.call).copied().unwrap_or(0) < 1;
             if of_seed < 2 && (small || large) {
                 if small {
