@@ -1,6 +1,7 @@
 //! Whole discs as real ones are laid out, small and made here: an 800K floppy
 //! and two hard discs of five zones. Files are written into the image, one is
-//! swept and released, and every other must stay as it was.
+//! swept and released, and every other must stay as it was. Of a drive of 255
+//! zones there is the map alone.
 
 use shoalswift::{
     address, check, claim, free, geometry, list, place, release, sweep_free, sweep_object,
@@ -45,6 +46,16 @@ const HARD_DISC_256: Shape = Shape {
     nzones: 5,
     zone_spare: 32,
     disc_size: (5 * 2016 - 480) * 256,
+};
+
+/// As many zones as there can be (document 02, R-4).
+const DRIVE_OF_255_ZONES: Shape = Shape {
+    log2secsize: 8,
+    idlen: 15,
+    log2bpmb: 8,
+    nzones: 255,
+    zone_spare: 32,
+    disc_size: (255 * 2016 - 480) * 256,
 };
 
 impl Shape {
@@ -185,7 +196,7 @@ fn fresh_map(shape: &Shape) -> Vec<u8> {
     for zone in (0..shape.zones()).rev() {
         let block = &mut map[zone * shape.sector()..][..shape.sector()];
         draw_zone(block, shape, zone);
-        block[3] = if zone == 0 { cross } else { 17 * zone as u8 };
+        block[3] = if zone == 0 { cross } else { (17 * zone) as u8 };
         cross ^= block[3];
         block[0] = zone_check(block);
     }
@@ -501,4 +512,24 @@ fn cross_checks_change_by_the_rule_and_no_other_zone_does() {
             }
         }
     }
+}
+
+/// Its start zone is 200, and it goes round past the last zone.
+#[test]
+fn an_object_goes_round_255_zones() {
+    let shape = DRIVE_OF_255_ZONES;
+    let fresh = fresh_map(&shape);
+    assert_eq!(geometry(&fresh), Ok(shape.geometry()));
+    let id = 200 * shape.ids_per_zone();
+    let entries = one_piece_in_each(&shape, &[200, 254, 0, 127, 128]);
+    let mut map = fresh.clone();
+    assert_eq!(place(&mut map, id, &entries), Ok(()));
+    assert_eq!(pieces(&map, id), pairs_of(&entries));
+    let mut returned = [0; 10];
+    assert_eq!(release(&mut map, id, &mut returned), Ok(5));
+    assert_eq!(returned[..], entries);
+    assert!(map == fresh);
+    map[254 * 256 + 100] ^= 4;
+    let refusal = check(&map).unwrap_err();
+    assert_eq!((refusal.reason, refusal.zone), (Reason::ZoneCheck, 254));
 }
