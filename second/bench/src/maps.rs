@@ -2,15 +2,12 @@
 
 use reference::case::{Call, Case};
 use reference::generate::{build, Rng};
-use reference::geometry::{DiscRecord, Geometry};
+use reference::geometry::{DiscRecord, Geometry, MOST_ZONES};
 use reference::map::{check, Owner};
 
-/// The numbers of zones of 1,024-byte blocks measured.
+/// The numbers of zones of 1,024-byte blocks measured. `MOST_ZONES` are measured
+/// with blocks of 256 bytes.
 const ZONES: [u8; 5] = [1, 2, 8, 32, 127];
-
-/// The most zones there can be (R-4 of document 02), measured with blocks of 256
-/// bytes.
-const MOST_ZONES: u8 = 255;
 
 /// 127 zones of 1,024-byte blocks leave 258 ids a zone, hence 4,128 of the
 /// 8,192 bits. All sizes spare the same, so that their zones can be compared.
@@ -88,7 +85,7 @@ impl Size {
         let record = DiscRecord {
             log2secsize: 8,
             zone_spare: 32,
-            ..record(MOST_ZONES)
+            ..record(MOST_ZONES as u8)
         };
         Size::with_maps(whole_disc(record), 1)
     }

@@ -16,6 +16,7 @@ use product::Told;
 use program::Program;
 use reference::case::{Call, Case, Outcome, CALLS};
 use reference::generate::{play, Sizes};
+use reference::geometry::LARGEST_MAP;
 use reference::map::{check, CheckedMap};
 
 /// Guard bytes or entries before and after what is lent.
@@ -207,6 +208,8 @@ struct Tally {
     compared: [[u64; 18]; 10],
     /// Geometries, by number. Each map that comes up has its own told once.
     geometries: [u64; 18],
+    /// Accepted maps of more than 127 zones (R-4 of document 02).
+    many_zones: u64,
     last_map: Vec<u8>,
     differences: u64,
     smallest: Option<Difference>,
@@ -217,6 +220,7 @@ impl Tally {
         Tally {
             compared: [[0; 18]; 10],
             geometries: [0; 18],
+            many_zones: 0,
             last_map: Vec::new(),
             differences: 0,
             smallest: None,
@@ -259,6 +263,7 @@ impl Tally {
         let mut lent = Lent::new(map, 0xA5, (step % 8) as usize);
         let theirs = product::geometry(lent.slice());
         self.geometries[ours.number as usize] += 1;
+        self.many_zones += u64::from(ours.numbers[2] > 127);
         if ours != theirs || lent.contents() != map || !lent.guard_kept() {
             let of = format!("seed {seed}, the map of call {step} of it: geometry\n");
             let text = format!("{of}  reference: {ours:?}\n  product: {theirs:?}\n");
@@ -323,8 +328,7 @@ fn print_row(name: &str, counts: &[u64; 18]) {
 /// Compares every call of the seeds, and some maps through the small program.
 fn compare(seeds: std::ops::Range<u64>, program: &mut Option<Program>) -> Tally {
     let sizes = Sizes {
-        // 255 zones of 1,024 bytes.
-        map: 261_120,
+        map: LARGEST_MAP,
         list: 200_000,
         image: 65_536,
     };
@@ -373,6 +377,7 @@ fn main() -> ExitCode {
 
     let swept: u64 = tally.compared[Call::SweepFree as usize].iter().sum();
     println!("{swept} sweeps of free space made by simple and fast too");
+    println!("{} accepted maps of more than 127 zones", tally.many_zones);
 
     let complaints = tally.complaints();
     for complaint in &complaints {

@@ -2,7 +2,7 @@
 //! to them, arguments for each call, and runs of calls. A seed decides all.
 
 use crate::case::{Call, Case, Outcome, CALLS};
-use crate::geometry::{DiscRecord, Geometry};
+use crate::geometry::{DiscRecord, Geometry, MOST_ZONES};
 use crate::map::{
     block_mut, check, set_bit, set_number, write_fragments, zone_check_by_words, CheckedMap,
     Fragment, Owner,
@@ -59,9 +59,7 @@ pub struct Sizes {
 
 // ---------------------------------------------------------------- valid maps
 
-/// The most zones there can be ("Raise nzones from 127 to 255", R-4 of document
-/// 02), and the longest zone of which so many have at most 2^15 ids.
-const MOST_ZONES: usize = 255;
+/// The longest zone of which `MOST_ZONES` have at most 2^15 ids.
 const LONGEST_OF_MANY: usize = 128 * 16 + 15;
 
 /// A disc record inside its ranges, on which a valid map can stand.

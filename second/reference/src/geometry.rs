@@ -9,6 +9,13 @@ pub const DISC_RECORD: usize = 4;
 /// Zone 0 has this many allocation bits fewer than every other zone.
 pub const ZONE_0_SHORTFALL: usize = 480;
 
+/// The most zones there can be: "Raise nzones from 127 to 255" (R-4 of document
+/// 02).
+pub const MOST_ZONES: usize = 255;
+
+/// The bytes of the largest map: so many blocks of 1,024 bytes.
+pub const LARGEST_MAP: usize = MOST_ZONES * 1_024;
+
 /// The fields of the disc record that are judged.
 #[derive(Clone, Copy, Debug, PartialEq, Eq)]
 pub struct DiscRecord {

@@ -7,7 +7,7 @@ use reference::edit::{claim, place, release};
 use reference::generate::{
     any_map, arguments, disc_record, map_a, objects, play, valid_map, Memory, Rng, Sizes,
 };
-use reference::geometry::Geometry;
+use reference::geometry::{Geometry, LARGEST_MAP};
 use reference::map::{check, zone_check_by_columns, zone_check_by_words};
 use reference::read::{address, free, list, sweep_free, sweep_object};
 
@@ -16,9 +16,6 @@ const SIZES: Sizes = Sizes {
     list: 2_048,
     image: 8_192,
 };
-
-/// 255 zones of 1,024 bytes.
-const LARGEST_MAP: usize = 261_120;
 
 fn generated(seed: u64) -> (Rng, Vec<u8>) {
     let mut rng = Rng::new(seed);

@@ -15,6 +15,7 @@ use maps::{subjects, Subject};
 use painted::Painted;
 use reference::case::{Case, CALLS};
 use reference::generate::{play, Sizes};
+use reference::geometry::LARGEST_MAP;
 
 const HEADER: &str = include_str!("../../../include/shoalswift.h");
 
@@ -81,8 +82,7 @@ fn measured() -> Vec<Row> {
         measure(&mut stack, &mut rows, &on, &case);
     }
     let sizes = Sizes {
-        // 255 zones of 1,024 bytes.
-        map: 261_120,
+        map: LARGEST_MAP,
         list: 200_000,
         image: 65_536,
     };

@@ -2,7 +2,7 @@
 //! with stretches at odd places.
 
 use reference::generate::{any_map, disc_record, map_a, map_b, map_floppy, valid_map, Rng};
-use reference::geometry::DiscRecord;
+use reference::geometry::{DiscRecord, LARGEST_MAP};
 use reference::read;
 
 type Sweep = fn(&[u8], &mut [u8], u64, u8) -> Result<u64, (u32, u32)>;
@@ -11,9 +11,6 @@ const PROGRAMS: [(&str, Sweep); 2] = [
     ("simple", sweep::simple::sweep_free),
     ("fast", sweep::fast::sweep_free),
 ];
-
-/// 255 zones of 1,024 bytes.
-const LARGEST_MAP: usize = 261_120;
 
 /// Makes one sweep by all three, and answers the refusal's number or 0.
 fn agree(seed: u64, map: &[u8], image: &[u8], first: u64, fill: u8) -> usize {

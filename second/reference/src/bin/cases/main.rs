@@ -28,11 +28,12 @@ use std::{env, fs, process};
 use calls::{Cases, Group};
 use reference::case::{Call, Case, CALLS};
 use reference::generate::Sizes;
+use reference::geometry::LARGEST_MAP;
 
 /// The largest map, list and stretch of a stored case. The map is the largest
-/// there is: 255 zones of 1,024 bytes.
+/// there is.
 const SIZES: Sizes = Sizes {
-    map: 261_120,
+    map: LARGEST_MAP,
     list: 1_024,
     image: 16_384,
 };
