@@ -11,14 +11,15 @@
  * A map is the blocks of all zones, zone 0 first. Lists are pairs of 32-bit numbers: disc bit, length in map bits.
  *
  *  1  map shorter than 64 bytes, or not nzones*S         10  id not on the map
- *  2  record outside its ranges                          11  id already on the map (place)
- *  3  a zone check differs                               12  list empty, odd, out of object order, overlapping, across zones, off
- *  4  cross checks don't give 255                            the map, not in clusters or too short; claim of 0 bytes
- *  5  FreeLink's top bit clear, or a link that lands     13  a listed bit isn't free, or a leftover of 1 to m-1 free bits
- *     on no fragment start                               14  claim: no unused id (cannot arise)
- *  6  a fragment without room, closing bit or whole      15  claim: no hole long enough
- *     clusters                                           16  start offset plus position past the object; stretch past the disc
- *  7  id, object 2 or disc-end rule broken               17  too few entries for the pairs
+ *  2  record outside its ranges, or its reserved bytes   11  id already on the map (place)
+ *     (36 to 63 of the map) not 0                        12  list empty, odd, out of object order, overlapping, across zones, off
+ *  3  a zone check differs                                   the map, not in clusters or too short; claim of 0 bytes
+ *  4  cross checks don't give 255                        13  a listed bit isn't free, or a leftover of 1 to m-1 free bits
+ *  5  FreeLink's top bit clear, or a link that lands     14  claim: no unused id (cannot arise)
+ *     on no fragment start                               15  claim: no hole long enough
+ *  6  a fragment without room, closing bit or whole      16  start offset plus position past the object; stretch past the disc
+ *     clusters                                           17  too few entries for the pairs
+ *  7  id, object 2 or disc-end rule broken
  *  8  id or internal number outside its range
  *  9  edits: two free fragments of a zone touch          3, 5, 6, 7 and 9 tell the lowest such zone, all others zone 0.
  *

@@ -11,7 +11,8 @@ use std::fmt;
 pub enum Reason {
     /// The map has the wrong number of bytes.
     MapLength = 1,
-    /// The disc record has a value that is not allowed.
+    /// The disc record has a value that is not allowed, or a reserved byte that
+    /// is not 0.
     DiscRecord = 2,
     /// A zone's check byte is wrong.
     ZoneCheck = 3,

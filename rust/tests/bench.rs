@@ -219,6 +219,21 @@ fn maps_that_break_a_rule() {
 }
 
 #[test]
+fn a_dirty_record_is_refused() {
+    // Of the bytes after the record's fields, 35 is carried; 36 to 63 are
+    // reserved.
+    for byte in [35, 36, 63] {
+        let mut map = map_a();
+        map[byte] = 1;
+        let mut map = mend_check(map);
+        let answer = if byte == 35 { Ok(()) } else { Err((2, 0)) };
+        assert_eq!(told(check(&map)), answer);
+        assert_eq!(told(geometry(&map)).map(|_| ()), answer);
+        assert_eq!(placed(&mut map, 5, &[12, 20]), answer);
+    }
+}
+
+#[test]
 fn touching_holes_are_read_but_not_edited() {
     // Map A's free fragment cut in two: 12 bits that lead to the rest.
     let mut map = map_a();

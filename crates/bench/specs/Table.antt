@@ -55,6 +55,10 @@ floppyBytes =
 abbrev recordA : List (ℕ × ℕ) → Question
 recordA bs = record-read (withBytes bs mapA)
 
+-- A with rubbish after the 32 bytes of its record, and the zone check that goes with it
+abbrev dirtyA : List ℕ
+dirtyA = withBytes ((0, 0xC4) ∷ (36, 0x01) ∷ []) mapA
+
 -- D with two free fragments of zone 1 that touch, (1548,12) and (1560,1992)
 abbrev touchingD : List ℕ
 touchingD = withBytes ((256, 0x6F) ∷ (261, 0xC8) ∷ (262, 0x80) ∷ []) mapD
@@ -186,6 +190,17 @@ table =
     ∷ row (recordA ((14, 0x15) ∷ (15, 0x06) ∷ (21, 0x2C) ∷ (22, 0x00) ∷ [])) (2 ∷ 0 ∷ [])
     ∷ row (recordA ((13, 0x10) ∷ (14, 0x00) ∷ (15, 0x02) ∷ [])) (0 ∷ 0 ∷ [])
     ∷ row (recordA ((13, 0x11) ∷ (14, 0x00) ∷ (15, 0x02) ∷ [])) (2 ∷ 0 ∷ [])
+    -- Block bytes 36 to 63 have to be 0, and 35 is carried (document 02, R-7). Rubbish in A with the zone check made right; with it left
+    -- wrong, a byte too many, or idlen 16; and an edit, which leaves all of it.
+    ∷ row (recordA ((36, 0x01) ∷ [])) (2 ∷ 0 ∷ [])
+    ∷ row (recordA ((63, 0x80) ∷ [])) (2 ∷ 0 ∷ [])
+    ∷ row (recordA ((35, 0xFF) ∷ [])) (0 ∷ 0 ∷ [])
+    ∷ row (check (withBytes ((0, 0xC5) ∷ (35, 0xFF) ∷ []) mapA)) (0 ∷ 0 ∷ [])
+    ∷ row (check dirtyA) (2 ∷ 0 ∷ [])
+    ∷ row (check (withBytes ((0, 0xC7) ∷ []) dirtyA)) (2 ∷ 0 ∷ [])
+    ∷ row (check (dirtyA ++ 0 ∷ [])) (2 ∷ 0 ∷ [])
+    ∷ row (recordA ((8, 0x10) ∷ (36, 0x01) ∷ [])) (2 ∷ 0 ∷ [])
+    ∷ row (after dirtyA (call.place 5 (12 ∷ 20 ∷ []))) dirtyA
     -- A map that is a byte too long; object 3 where A's middle zone has to begin with 2.
     ∷ row (check (mapA ++ 0 ∷ [])) (1 ∷ 0 ∷ [])
     ∷ row (check (withBytes ((0, 0xC4) ∷ (64, 0x03) ∷ []) mapA)) (7 ∷ 0 ∷ [])

@@ -1,3 +1,4 @@
+pub mod ZeroBytes
 pub mod Rules
 pub mod Numbers
 pub mod DiscBits

@@ -14,7 +14,7 @@ use Rattle.bits.proofs.Below.{below, at}
 use Rattle.geometry.specs.declared.DiscRecord.{DiscRecord}
 use Rattle.geometry.specs.declared.Geometry.{Geometry}
 use Rattle.geometry.specs.Record.{clusterOf, roundUp, recordIn, geometryFrom, geometryIn, floppyDisc, driveOf}
-use Rattle.geometry.specs.Ranges.{FieldRules, GeometryRules, RecordRules, recordFits}
+use Rattle.geometry.specs.Ranges.{FieldRules, GeometryRules, ZeroBytes, RecordRules, recordFits}
 use Rattle.geometry.specs.Accepted.{SmallNumbers, AcceptedGeometry}
 use Rattle.geometry.proofs.Rules.{test-gives-rules}
 
@@ -196,11 +196,12 @@ module _ (n : ℕ) (low : 1 ≤ n) (high : n ≤ 255) where
         within-map = omega arith;
       }
 
-pub drives : (r : List ℕ) (n : ℕ) → 1 ≤ n → n ≤ 255 → recordIn r ≡ driveOf n → RecordRules r
-drives r n low high e =
+pub drives : (r : List ℕ) (n : ℕ) → 1 ≤ n → n ≤ 255 → recordIn r ≡ driveOf n → ZeroBytes 32 60 r → RecordRules r
+drives r n low high e zero =
     record {
       fields = subst FieldRules (sym e) (drive-fields n low high);
       together = subst (λ d. GeometryRules (geometryFrom d)) (sym e) (drive-together n low high);
+      reserved = zero;
     }
 
 -- clusters

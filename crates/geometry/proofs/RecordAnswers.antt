@@ -3,36 +3,44 @@ use mathlib.Core.Path.{_≡_, refl, sym, ap, _∙_, subst}
 use mathlib.Core.Bool.{Bool, true, false, cond, _&&_}
 use mathlib.Core.List.{List}
 use mathlib.Core.Logic.{_⊎_, inl, inr}
-use Prim.Native.Nat.{ℕ, _<_, _≤_}
+use Prim.Native.Nat.{ℕ, _+_, _-_, _<_, _≤_}
 use native.Mathlib.Omega.{arith}
 use lib.Dec.{ltb}
-use lib.ListN.{length}
+use lib.ListN.{length, getD, drop}
+use lib.Seq.{getD-take, getD-drop}
 use borrow.Author.Tests.{ltb-true, ltb-false, lt-ltb, le-ltb}
+use Rattle.bits.proofs.Tests.{by-test}
 use Rattle.geometry.specs.declared.DiscRecord.{DiscRecord}
 use Rattle.geometry.specs.declared.Geometry.{Geometry}
 use Rattle.geometry.specs.declared.Refusal.{Refusal}
 use Rattle.geometry.specs.declared.RecordRead.{RecordRead}
 use Rattle.geometry.specs.declared.RecordRead.the-variants as read
-use Rattle.geometry.specs.Record.{discRecord, recordIn, geometryFrom, geometryOf}
-use Rattle.geometry.specs.Ranges.{fieldsFit, geometryFits, recordFits}
+use Rattle.geometry.specs.Record.{discRecord, byteAt, recordIn, geometryFrom, geometryOf}
+use Rattle.geometry.specs.Ranges.{fieldsFit, geometryFits, zeroBytes, recordFits}
 use Rattle.geometry.specs.Accepted.{AcceptedGeometry}
-use Rattle.geometry.specs.Answers.{refusal, byFit, byLength, recordOf, recordNumbers, ReadsRecord}
+use Rattle.geometry.specs.Answers.{refusal, byFit, byLength, recordOf, recordNumbers, recordTold, ReadsRecord}
+use Rattle.geometry.proofs.Rules.{test-gives-rules}
 use Rattle.geometry.proofs.Numbers.{test-gives-accepted}
 
 -- from the tests to the answer
 pub read-short : (m : List ℕ) → length m < 64 → read.Refused (refusal 1 0) ≡ recordOf m
 read-short m h = rw (lt-ltb (length m) 64 h)
 
--- the record that was read is the map's, so its two tests are the map's
+-- the record that was read is the map's, so its tests are the map's
 module _ (m : List ℕ) (long : 64 ≤ length m) {r : DiscRecord} (e : r ≡ recordIn (discRecord m)) where
-  read-long : byFit (fieldsFit r && geometryFits (geometryFrom r)) (geometryFrom r) ≡ recordOf m
-  read-long = ap (λ (x : DiscRecord). byFit (fieldsFit x && geometryFits (geometryFrom x)) (geometryFrom x)) e ∙ rw (le-ltb (length m) 64 long)
+  abbrev clean : Bool
+  clean = zeroBytes 32 60 (discRecord m)
+
+  read-long : byFit (fieldsFit r && (geometryFits (geometryFrom r) && clean)) (geometryFrom r) ≡ recordOf m
+  read-long =
+      ap (λ (x : DiscRecord). byFit (fieldsFit x && (geometryFits (geometryFrom x) && clean)) (geometryFrom x)) e
+      ∙ rw (le-ltb (length m) 64 long)
 
   pub read-outside : fieldsFit r ≡ false → read.Refused (refusal 2 0) ≡ recordOf m
   read-outside t = rw t at read-long
 
-  pub read-geometry : fieldsFit r ≡ true → {g : Geometry} → g ≡ geometryFrom r → {b : Bool} → b ≡ geometryFits g → byFit b g ≡ recordOf m
-  read-geometry f {g} h t = ap (λ (x : Bool). byFit x g) t ∙ ap (λ (x : Geometry). byFit (geometryFits x) x) h ∙ (rw f at read-long)
+  pub read-geometry : fieldsFit r ≡ true → {g : Geometry} → g ≡ geometryFrom r → {b : Bool} → b ≡ geometryFits g && clean → byFit b g ≡ recordOf m
+  read-geometry f {g} h t = ap (λ (x : Bool). byFit x g) t ∙ ap (λ (x : Geometry). byFit (geometryFits x && clean) x) h ∙ (rw f at read-long)
 
 -- the answer's numbers are the table's
 pub reads-record : (m : List ℕ) {r : RecordRead} → r ≡ recordOf m → ReadsRecord m r
@@ -68,3 +76,13 @@ module _ (m : List ℕ) where
   accepted-geometry g e =
       let a = accepted-says g e in
       subst (λ (x : Geometry). AcceptedGeometry x) (sym (a .2)) (test-gives-accepted (discRecord m) (a .1))
+
+-- a reserved byte that is not 0 breaks the last rule
+pub dirty : (m : List ℕ) → 64 ≤ length m → (b : ℕ) → 36 ≤ b → b < 64 → (getD m b 0 ≡ 0 → ⊥) → recordTold m ≡ (2, 0)
+dirty m long b low high rubbish =
+    let r = discRecord m in
+    let i : 4 + (b - 4) ≡ b = omega arith in
+    let at : byteAt r (b - 4) ≡ getD m b 0 = getD-take 60 (drop 4 m) (b - 4) 0 (omega arith) ∙ getD-drop 4 m (b - 4) 0 ∙ ap (λ (j : ℕ). getD m j 0) i in
+    by-test (recordFits r)
+    (λ t. absurd (rubbish (sym at ∙ test-gives-rules r t .reserved (b - 4) (omega arith) (omega arith))))
+    (λ t. rw (le-ltb (length m) 64 long, t) refl)

@@ -11,7 +11,8 @@ use Rattle.bits.proofs.Tests.{both}
 use Rattle.geometry.specs.declared.DiscRecord.{DiscRecord}
 use Rattle.geometry.specs.declared.Geometry.{Geometry}
 use Rattle.geometry.specs.Record.{recordIn, geometryIn}
-use Rattle.geometry.specs.Ranges.{FieldRules, GeometryRules, RecordRules, mostZones, longestId, between, fieldsFit, geometryFits, recordFits}
+use Rattle.geometry.specs.Ranges.{FieldRules, GeometryRules, RecordRules, mostZones, longestId, between, fieldsFit, geometryFits, zeroBytes, recordFits}
+use Rattle.geometry.proofs.ZeroBytes.{test-gives-zero, zero-gives-test}
 
 between-gives : (a x b : ℕ) → between a x b ≡ true → (a ≤ x) × (x ≤ b)
 between-gives a x b t = let p = both (leb a x) (leb x b) t in (leb-true a x (p .0), leb-true x b (p .1))
@@ -90,11 +91,17 @@ module _ (g : Geometry) where
 module _ (r : List ℕ) where
   pub test-gives-rules : recordFits r ≡ true → RecordRules r
   test-gives-rules t =
-      let p = both (fieldsFit (recordIn r)) (geometryFits (geometryIn r)) t in
-      record { fields = test-gives-fields (recordIn r) (p .0); together = test-gives-together (geometryIn r) (p .1) }
+      let p = both (fieldsFit (recordIn r)) _ t in
+      let q = both (geometryFits (geometryIn r)) (zeroBytes 32 60 r) (p .1) in
+      record {
+        fields = test-gives-fields (recordIn r) (p .0);
+        together = test-gives-together (geometryIn r) (q .0);
+        reserved = test-gives-zero 32 60 r (q .1);
+      }
 
   pub rules-give-test : RecordRules r → recordFits r ≡ true
-  rules-give-test k = rw (fields-give-test (recordIn r) (k .fields), together-gives-test (geometryIn r) (k .together))
+  rules-give-test k =
+      rw (fields-give-test (recordIn r) (k .fields), together-gives-test (geometryIn r) (k .together), zero-gives-test 32 60 r (k .reserved))
 
 pub test-is-rules : (r : List ℕ) → (recordFits r ≡ true → RecordRules r) × (RecordRules r → recordFits r ≡ true)
 test-is-rules r = (test-gives-rules r, rules-give-test r)

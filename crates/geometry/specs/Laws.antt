@@ -3,12 +3,13 @@ use mathlib.Core.Path.{_≡_}
 use mathlib.Core.Bool.{true}
 use mathlib.Core.List.{List}
 use Prim.Native.Nat.{ℕ, suc, _*_, _/_, _%_, _<_, _≤_}
+use lib.ListN.{length, getD}
 use Rattle.geometry.specs.declared.Geometry.{Geometry}
 use Rattle.geometry.specs.Record.{recordIn, clusterOf, geometryIn, geometryFrom, floppyDisc, eightZones, driveOf}
-use Rattle.geometry.specs.Ranges.{RecordRules, recordFits}
+use Rattle.geometry.specs.Ranges.{ZeroBytes, RecordRules, recordFits}
 use Rattle.geometry.specs.Accepted.{AcceptedGeometry}
 use Rattle.geometry.specs.Places.{firstBit, endBit, discBit, blockBit, zoneOf, zoneFrom, zoneEnd, discBits, startZone}
-use Rattle.geometry.specs.Answers.{startOf, startNumbers}
+use Rattle.geometry.specs.Answers.{recordTold, startOf, startNumbers}
 
 pub record GeometryLaws : Type 0 where
   -- the test accepts a record exactly when it keeps the rules
@@ -37,5 +38,8 @@ pub record GeometryLaws : Type 0 where
   pub divisor : let g = geometryFrom (floppyDisc 13) in (g .bits ≡ 6880) × (g .shortest ≡ 16) × (g .ids ≡ 491)
   -- "Id 690 with 168 ids per zone: start zone 4 (document 000)"
   pub object-690 : let g = geometryFrom eightZones in (g .ids ≡ 168) × (startNumbers (startOf g 1 690) ≡ (0, 0, 4))
-  -- "drives with 256-byte sectors and up to 255 zones" (document 02, R-4): the rules hold for every number of zones
-  pub drives : (r : List ℕ) (n : ℕ) → 1 ≤ n → n ≤ 255 → recordIn r ≡ driveOf n → RecordRules r
+  -- "drives with 256-byte sectors and up to 255 zones" (document 02, R-4): the rules hold for every number of zones, whatever
+  -- the carried bytes are
+  pub drives : (r : List ℕ) (n : ℕ) → 1 ≤ n → n ≤ 255 → recordIn r ≡ driveOf n → ZeroBytes 32 60 r → RecordRules r
+  -- "A map with any of block bytes 36 to 63 of zone 0 not 0 is refused with 2" (document 02, R-7), whatever its other bytes
+  pub dirty : (m : List ℕ) → 64 ≤ length m → (b : ℕ) → 36 ≤ b → b < 64 → (getD m b 0 ≡ 0 → ⊥) → recordTold m ≡ (2, 0)

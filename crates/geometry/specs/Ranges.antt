@@ -1,13 +1,14 @@
--- The ranges of a disc record (document 01, "The disc record and its ranges", "Accepted: .."), as rules to read and as
--- a test that computes. `Laws.test-is-rules` shows them to say the same. Assumes nothing.
+-- The ranges of a disc record (document 01, "The disc record and its ranges", "Accepted: .."; document 02, R-4 and R-7), as
+-- rules to read and as a test that computes. `Laws.test-is-rules` shows them to say the same. Assumes nothing.
 use mathlib.Core.Path.{_≡_}
-use mathlib.Core.Bool.{Bool, _&&_}
-use mathlib.Core.List.{List}
+use mathlib.Core.Bool.{Bool, true, _&&_}
+use mathlib.Core.List.{List, [], _∷_}
 use Prim.Native.Nat.{ℕ, _+_, _-_, _*_, _%_, _^_, _<_, _≤_}
 use lib.Dec.{eqb, ltb, leb}
+use lib.Seq.{slice}
 use Rattle.geometry.specs.declared.DiscRecord.{DiscRecord}
 use Rattle.geometry.specs.declared.Geometry.{Geometry}
-use Rattle.geometry.specs.Record.{recordIn, geometryIn}
+use Rattle.geometry.specs.Record.{byteAt, recordIn, geometryIn}
 
 -- "nzones 1 to 127"; "Raise nzones from 127 to 255" (document 02, R-4)
 abbrev pub mostZones : ℕ
@@ -47,9 +48,17 @@ pub record GeometryRules (g : Geometry) : Type 0 where
   pub whole-sectors : g .size % g .sector ≡ 0
   pub within-map : g .size ≤ (g .zones * g .bits - 480) * g .unit
 
+-- bytes `from` to `end - 1` of a record are 0
+abbrev pub ZeroBytes : ℕ → ℕ → List ℕ → Type 0
+ZeroBytes from end r = (i : ℕ) → from ≤ i → i < end → byteAt r i ≡ 0
+
+-- a rule that is broken is refused with 2 and zone 0, whichever it is: the order of these three is not seen in any answer
 pub record RecordRules (r : List ℕ) : Type 0 where
   pub fields : FieldRules (recordIn r)
   pub together : GeometryRules (geometryIn r)
+  -- "the other 28 bytes are 0, being reserved" (source document 001); "A map with any of block bytes 36 to 63 of zone 0 not 0 is
+  -- refused with 2 from now on, judged after the other fields" (document 02, R-7): record bytes 32 to 59
+  pub reserved : ZeroBytes 32 60 r
 
 -- the same as a test
 abbrev pub between : ℕ → ℕ → ℕ → Bool
@@ -72,5 +81,12 @@ geometryFits g =
     && (eqb (g .size % g .sector) 0
     && leb (g .size) ((g .zones * g .bits - 480) * g .unit)))))
 
+abbrev pub allZero : List ℕ → Bool
+allZero [] = true
+allZero (b ∷ bs) = eqb b 0 && allZero bs
+
+abbrev pub zeroBytes : ℕ → ℕ → List ℕ → Bool
+zeroBytes from end r = allZero (slice from end r)
+
 abbrev pub recordFits : List ℕ → Bool
-recordFits r = fieldsFit (recordIn r) && geometryFits (geometryIn r)
+recordFits r = fieldsFit (recordIn r) && (geometryFits (geometryIn r) && zeroBytes 32 60 r)

@@ -3,11 +3,12 @@
 use bits::both;
 use bits::minus;
 use bits::wide;
+use bits::zero_run;
 ghost use mathlib.Core.Path.{_≡_};
 ghost use Prim.Native.Nat.{_+_, _-_, _*_, _/_, _%_, _^_, _<_, _≤_};
 ghost use lib.ListN.{length};
 ghost use Rattle.geometry.specs.Record.{clusterOf, twoBytes, recordIn, geometryFrom};
-ghost use Rattle.geometry.specs.Ranges.{FieldRules, between, fieldsFit, geometryFits};
+ghost use Rattle.geometry.specs.Ranges.{FieldRules, between, fieldsFit, geometryFits, zeroBytes};
 ghost use Rattle.geometry.specs.Accepted.{SmallNumbers, AcceptedGeometry};
 ghost use Rattle.geometry.specs.Places.{firstBit, endBit, discBit, blockBit, zoneOf, zoneFrom, discBits, idFrom};
 ghost use Rattle.geometry.specs.Answers.{refusal, ReadsRecord, TellsStart};
@@ -67,19 +68,20 @@ const MOST_ZONES: usize = 255;
 const LONGEST_ID: usize = 15;
 
 // The geometry that a map's record gives. Refused: 1 where the map is under 64 bytes, 2 where the record is outside its
-// ranges.
+// ranges or its reserved bytes are not 0.
 pub fn read_record(map: &[u8]) -> RecordRead
     ensures { λ r. ⌜ ReadsRecord (now (map .entry)) r ⌝ }
 {
     if map.len() < 64 {
         return RecordRead::Refused(refuse(1));
     }
-    let r = record_in(&map[4..64]);
+    let bytes = &map[4..64];
+    let r = record_in(bytes);
     if !fields_fit(r) {
         return RecordRead::Refused(refuse(2));
     }
     let g = geometry_from(r);
-    if !geometry_fits(g) {
+    if !both(geometry_fits(g), zero_bytes(bytes, 32, 60)) {
         return RecordRead::Refused(refuse(2));
     }
     RecordRead::Accepted(g)
@@ -279,6 +281,14 @@ fn geometry_fits(g: Geometry) -> bool
         g.bits % g.cluster == 0,
         both(480 + g.shortest <= g.bits, both(named, disc)),
     )
+}
+
+// Whether bytes `from` to `end - 1` of a record's 60 are 0: none of their bits is 1.
+fn zero_bytes(r: &[u8], from: usize, end: usize) -> bool
+    requires { ⌜ (length (now r) ≡ 60) × (from ≤ end) × (end ≤ 60) ⌝ }
+    ensures { λ b. ⌜ b ≡ zeroBytes from end (now (r .entry)) ⌝ }
+{
+    zero_run(r, 8 * from, 8 * end) == 8 * (end - from)
 }
 
 // The laws of specs/Laws, as a contract: the function does nothing.

@@ -17,7 +17,7 @@ use program::Program;
 use reference::case::{Call, Case, Outcome, CALLS};
 use reference::generate::{play, Sizes};
 use reference::geometry::LARGEST_MAP;
-use reference::map::{check, CheckedMap};
+use reference::map::{check, only_reserved_bytes_are_wrong, CheckedMap};
 
 /// Guard bytes or entries before and after what is lent.
 const GUARD: usize = 72;
@@ -210,6 +210,8 @@ struct Tally {
     geometries: [u64; 18],
     /// Accepted maps of more than 127 zones (R-4 of document 02).
     many_zones: u64,
+    /// Maps with a dirty record, right in every other way (R-7 of document 02).
+    dirty_records: u64,
     last_map: Vec<u8>,
     differences: u64,
     smallest: Option<Difference>,
@@ -221,6 +223,7 @@ impl Tally {
             compared: [[0; 18]; 10],
             geometries: [0; 18],
             many_zones: 0,
+            dirty_records: 0,
             last_map: Vec::new(),
             differences: 0,
             smallest: None,
@@ -264,6 +267,7 @@ impl Tally {
         let theirs = product::geometry(lent.slice());
         self.geometries[ours.number as usize] += 1;
         self.many_zones += u64::from(ours.numbers[2] > 127);
+        self.dirty_records += u64::from(only_reserved_bytes_are_wrong(map));
         if ours != theirs || lent.contents() != map || !lent.guard_kept() {
             let of = format!("seed {seed}, the map of call {step} of it: geometry\n");
             let text = format!("{of}  reference: {ours:?}\n  product: {theirs:?}\n");
@@ -312,6 +316,9 @@ impl Tally {
         }
         for number in (0..=7).filter(|number| self.geometries[*number] == 0) {
             lines.push(format!("no geometry was answered with {number}"));
+        }
+        if self.dirty_records == 0 {
+            lines.push("no map had a dirty record and was right in every other way".to_string());
         }
         lines
     }
@@ -378,6 +385,10 @@ fn main() -> ExitCode {
     let swept: u64 = tally.compared[Call::SweepFree as usize].iter().sum();
     println!("{swept} sweeps of free space made by simple and fast too");
     println!("{} accepted maps of more than 127 zones", tally.many_zones);
+    println!(
+        "{} maps with a dirty record, right in every other way",
+        tally.dirty_records
+    );
 
     let complaints = tally.complaints();
     for complaint in &complaints {

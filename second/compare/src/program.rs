@@ -3,7 +3,7 @@
 use std::io::{self, ErrorKind, Read, Write};
 use std::process::{Command, Stdio};
 
-use reference::generate::{map_a, map_b, map_of_zones};
+use reference::generate::{map_a, map_b, map_of_zones, repair_zone_checks};
 use reference::lines::{lines, LONGEST_MAP};
 use reference::map::check;
 
@@ -46,18 +46,23 @@ impl Program {
         Ok(())
     }
 
-    /// Maps A and B, no bytes, lengths around the longest that is read, and the
-    /// two valid maps of many zones nearest to it. R-4 of document 02 does not
-    /// raise that length, so that the longer of them is refused.
+    /// Maps A and B, A with a dirty record (R-7 of document 02), no bytes, lengths
+    /// around the longest that is read, and the two valid maps of many zones
+    /// nearest to it. R-4 of document 02 does not raise that length, so that the
+    /// longer of them is refused.
     pub fn compare_fixed(&mut self) -> io::Result<()> {
         let mut long = map_a();
         long.resize(LONGEST_MAP + 1, 0);
+        let mut dirty = map_a();
+        dirty[63] = 1;
+        repair_zone_checks(&mut dirty, 256);
         let (shorter, longer) = (map_of_zones(8, 255), map_of_zones(9, 129));
         assert!(shorter.len() <= LONGEST_MAP && longer.len() > LONGEST_MAP);
         assert!(check(&shorter).is_ok() && check(&longer).is_ok());
         for (name, map) in [
             ("map A", &map_a()[..]),
             ("map B", &map_b()[..]),
+            ("map A with a dirty record", &dirty[..]),
             ("no bytes", &[]),
             ("as many bytes as are read", &long[..LONGEST_MAP]),
             ("a byte more", &long[..]),

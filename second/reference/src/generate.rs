@@ -2,7 +2,7 @@
 //! to them, arguments for each call, and runs of calls. A seed decides all.
 
 use crate::case::{Call, Case, Outcome, CALLS};
-use crate::geometry::{DiscRecord, Geometry, MOST_ZONES};
+use crate::geometry::{DiscRecord, Geometry, MOST_ZONES, RESERVED};
 use crate::map::{
     block_mut, check, set_bit, set_number, write_fragments, zone_check_by_words, CheckedMap,
     Fragment, Owner,
@@ -166,8 +166,8 @@ fn some_nzones(rng: &mut Rng, most: usize, many: bool) -> usize {
     nzones.min(most)
 }
 
-/// Builds a map from owners and lengths, zone by zone; carried bytes are 0,
-/// the cross check is 255 in zone 0 and 0 elsewhere.
+/// Builds a map from owners and lengths, zone by zone; carried and reserved
+/// bytes are 0, the cross check is 255 in zone 0 and 0 elsewhere.
 pub fn build(record: &DiscRecord, zones: &[Vec<(Owner, usize)>]) -> Vec<u8> {
     let geometry = Geometry::accept(record).expect("a record inside its ranges");
     let mut map = vec![0; geometry.nzones * geometry.sector_size];
@@ -246,10 +246,12 @@ pub fn valid_map(rng: &mut Rng, record: &DiscRecord) -> Vec<u8> {
     let (k, m) = (geometry.cluster_bits, geometry.shortest_fragment);
     let last_id = geometry.ids() - 1;
 
-    // Carried fields and bits after a zone's end: noise in half of the maps.
+    // Carried fields and bits after a zone's end: noise in half of the maps. The
+    // reserved bytes are judged, and stay 0.
     let mut map = vec![0; geometry.nzones * geometry.sector_size];
     if rng.percent(50) {
         map.iter_mut().for_each(|byte| *byte = rng.byte());
+        map[RESERVED].fill(0);
     }
     record.write(&mut map);
 
@@ -400,9 +402,44 @@ fn damage_length(rng: &mut Rng, map: &mut Vec<u8>, geometry: &Geometry) {
     map.resize(length, rng.byte());
 }
 
-/// Towards refusal 2: one field outside or at the edge of its range. A small
-/// disc_size goes with most changes, so that no other rule is broken by them.
+/// Towards refusal 2: the reserved bytes, a field, or both.
 fn damage_record(rng: &mut Rng, map: &mut [u8], geometry: &Geometry) {
+    let what = rng.below(10);
+    if what < 4 {
+        dirty_record(rng, map);
+    }
+    if what > 2 {
+        damage_field(rng, map, geometry);
+    }
+}
+
+/// Reserved bytes that are not 0 (R-7 of document 02): one alone, one bit alone,
+/// two that add up to 0, those from one on, or all.
+fn dirty_record(rng: &mut Rng, map: &mut [u8]) {
+    let reserved = &mut map[RESERVED];
+    let at = rng.below(reserved.len());
+    let dirt = rng.between(1, 255) as u8;
+    match rng.below(6) {
+        0 | 1 => reserved[at] = dirt,
+        2 => reserved[at] = 1 << rng.below(8),
+        3 => {
+            let other = (at + rng.between(1, reserved.len() - 1)) % reserved.len();
+            reserved[at] = dirt;
+            reserved[other] = dirt.wrapping_neg();
+        }
+        4 => {
+            reserved[at..]
+                .iter_mut()
+                .for_each(|byte| *byte = rng.byte());
+            reserved[at] = dirt;
+        }
+        _ => reserved.fill(dirt),
+    }
+}
+
+/// One field outside or at the edge of its range. A small disc_size goes with
+/// most changes, so that no other rule is broken by them.
+fn damage_field(rng: &mut Rng, map: &mut [u8], geometry: &Geometry) {
     let mut record = DiscRecord::read(map);
     let whole_block = 8 * geometry.sector_size;
     let k = geometry.cluster_bits;
@@ -439,6 +476,7 @@ fn damage_record(rng: &mut Rng, map: &mut [u8], geometry: &Geometry) {
         18 => record.disc_size = (most_bytes + geometry.sector_size as u64) as u32,
         19 => record.disc_size = rng.pick(&[u32::MAX, 0xFFFF_FC00, 0x8000_0000]),
         20 => record.disc_size = most_bytes as u32,
+        // Any byte of the record: judged, carried or reserved.
         _ => map[4 + rng.below(60)] = rng.byte(),
     }
     if what == 21 {
@@ -606,6 +644,8 @@ fn noise(rng: &mut Rng, largest_map: usize) -> Vec<u8> {
     let mut map: Vec<u8> = (0..length)
         .map(|_| if rng.percent(density) { rng.byte() } else { 0 })
         .collect();
+    // A dirty record would hide the noise behind it.
+    map[RESERVED].fill(0);
     record.write(&mut map);
     if rng.percent(90) {
         for block in map.chunks_exact_mut(sector_size) {
@@ -630,6 +670,7 @@ pub fn any_map(rng: &mut Rng, largest_map: usize) -> Vec<u8> {
         return noise(rng, largest_map);
     }
     let record = disc_record(rng, largest_map);
+    let sector_size = 1 << record.log2secsize;
     let mut map = valid_map(rng, &record);
     match rng.below(10) {
         0..=5 => {
@@ -640,7 +681,12 @@ pub fn any_map(rng: &mut Rng, largest_map: usize) -> Vec<u8> {
             let refusals = [rng.between(1, 7) as u32, rng.between(1, 7) as u32];
             damage(rng, &mut map, &refusals);
         }
-        _ => flip_bits(rng, &mut map, 1 << record.log2secsize),
+        // Nothing wrong but the reserved bytes.
+        8 if rng.percent(50) => {
+            dirty_record(rng, &mut map);
+            repair(&mut map, sector_size);
+        }
+        _ => flip_bits(rng, &mut map, sector_size),
     }
     map
 }

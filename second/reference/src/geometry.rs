@@ -1,10 +1,17 @@
 //! The disc record, its ranges and the numbers derived from them
-//! (document 01, "The disc record and its ranges").
+//! (document 01, "The disc record and its ranges"), and the reserved bytes after
+//! it (R-7 of document 02).
+
+use std::ops::Range;
 
 use crate::Refusal;
 
 /// The disc record starts at byte 4 of zone 0.
 pub const DISC_RECORD: usize = 4;
+
+/// Block bytes 36 to 63 of zone 0: "the first 32 bytes are a disc record describing
+/// the disc, the other 28 bytes are 0, being reserved" (source document 001).
+pub const RESERVED: Range<usize> = DISC_RECORD + 32..DISC_RECORD + 60;
 
 /// Zone 0 has this many allocation bits fewer than every other zone.
 pub const ZONE_0_SHORTFALL: usize = 480;
@@ -51,6 +58,13 @@ impl DiscRecord {
         record[10..12].copy_from_slice(&self.zone_spare.to_le_bytes());
         record[16..20].copy_from_slice(&self.disc_size.to_le_bytes());
     }
+}
+
+/// The rule of R-7 of document 02, on a map of at least 64 bytes: "A map with any
+/// of block bytes 36 to 63 of zone 0 not 0 is refused with 2 from now on, judged
+/// after the other fields."
+pub fn reserved_bytes_are_0(map: &[u8]) -> bool {
+    map[RESERVED].iter().all(|byte| *byte == 0)
 }
 
 /// An accepted disc record with the numbers derived from it.

@@ -2,7 +2,7 @@
 //! fragments of each zone (document 01, "Bits, fragments, chains",
 //! "Zone check and cross check", "Numbered refusals").
 
-use crate::geometry::{DiscRecord, Geometry};
+use crate::geometry::{reserved_bytes_are_0, DiscRecord, Geometry};
 use crate::Refusal;
 
 /// Who has a fragment: nobody, if it is on its zone's chain, or an object.
@@ -165,6 +165,24 @@ pub fn check(map: &[u8]) -> Result<CheckedMap, Refusal> {
         Some(geometry) => geometry,
         None => return Err(Refusal::plain(2)),
     };
+    if !reserved_bytes_are_0(map) {
+        return Err(Refusal::plain(2));
+    }
+    check_blocks(geometry, map)
+}
+
+/// Whether nothing but the reserved bytes after the disc record is wrong with a
+/// map, so that only R-7 of document 02 refuses it.
+pub fn only_reserved_bytes_are_wrong(map: &[u8]) -> bool {
+    if map.len() < 64 || reserved_bytes_are_0(map) {
+        return false;
+    }
+    let geometry = Geometry::accept(&DiscRecord::read(map));
+    geometry.is_some_and(|geometry| check_blocks(geometry, map).is_ok())
+}
+
+/// Checks a map whose record was accepted, from its length on.
+fn check_blocks(geometry: Geometry, map: &[u8]) -> Result<CheckedMap, Refusal> {
     if map.len() != geometry.nzones * geometry.sector_size {
         return Err(Refusal::plain(1));
     }

@@ -1,5 +1,5 @@
 //! The disc record: its fields, its ranges and what follows from them
-//! (document 01, "The disc record and its ranges").
+//! (document 01, "The disc record and its ranges"; R-7 of document 02).
 
 use crate::Refusal;
 
@@ -26,6 +26,9 @@ impl Record {
     pub fn read(map: &[u8]) -> Result<Record, Refusal> {
         let head: &[u8; 64] = map.first_chunk().ok_or((1, 0))?;
         let record = Record::accept(head).ok_or((2, 0))?;
+        if dirty(head) {
+            return Err((2, 0));
+        }
         if map.len() != record.nzones * record.sector_size {
             return Err((1, 0));
         }
@@ -104,4 +107,12 @@ impl Record {
             _ => Err((16, 0)),
         }
     }
+}
+
+/// Whether there is rubbish after the record. It has 32 bytes, from byte 4 on, so
+/// that 28 of the 64 are left, and R-7 of document 02 says: "Source document 001
+/// says the 28 bytes after the 32-byte record are 0", "A map with any of block
+/// bytes 36 to 63 of zone 0 not 0 is refused with 2".
+fn dirty(head: &[u8; 64]) -> bool {
+    !head.ends_with(&[0; 28])
 }

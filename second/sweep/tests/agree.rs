@@ -1,7 +1,9 @@
 //! Both programs against the reference, on generated maps, valid and damaged,
 //! with stretches at odd places.
 
-use reference::generate::{any_map, disc_record, map_a, map_b, map_floppy, valid_map, Rng};
+use reference::generate::{
+    any_map, disc_record, map_690, map_a, map_b, map_floppy, repair_zone_checks, valid_map, Rng,
+};
 use reference::geometry::{DiscRecord, LARGEST_MAP};
 use reference::read;
 
@@ -93,4 +95,43 @@ fn maps_of_document_01() {
             assert_eq!(agree(0, &map, &whole[..1_027], first, 0xFF), 0);
         }
     }
+}
+
+/// The map with another byte, its zone checks made right again.
+fn with_byte(map: &[u8], at: usize, byte: u8) -> Vec<u8> {
+    let mut map = map.to_vec();
+    map[at] = byte;
+    let sector_size = 1 << map[4];
+    repair_zone_checks(&mut map, sector_size);
+    map
+}
+
+/// "A map with any of block bytes 36 to 63 of zone 0 not 0 is refused with 2" (R-7
+/// of document 02): each of them alone. Byte 35 is carried, and byte 64 has
+/// allocation bits.
+#[test]
+fn dirty_records() {
+    let number = |map: &[u8]| agree(0, map, &[0; 64], 0, 0xFF);
+    for map in [map_b(), map_690(), map_floppy()] {
+        for byte in 1..=255 {
+            for at in 36..64 {
+                assert_eq!(number(&with_byte(&map, at, byte)), 2, "byte {at}");
+            }
+            assert_eq!(number(&with_byte(&map, 35, byte)), 0);
+            assert_ne!(number(&with_byte(&map, 64, byte)), 2);
+        }
+    }
+}
+
+/// "Order: 1 (under 64), 2, 1, 3".
+#[test]
+fn dirty_records_of_other_lengths() {
+    let mut dirty = with_byte(&map_b(), 36, 1);
+    assert_eq!(agree(0, &dirty[..63], &[], 0, 0), 1);
+    assert_eq!(agree(0, &dirty[..64], &[], 0, 0), 2);
+    assert_eq!(agree(0, &dirty[..255], &[], 0, 0), 2);
+    dirty[0] ^= 1;
+    assert_eq!(agree(0, &dirty, &[], 0, 0), 2);
+    dirty.push(0);
+    assert_eq!(agree(0, &dirty, &[], 0, 0), 2);
 }

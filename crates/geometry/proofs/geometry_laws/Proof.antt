@@ -4,6 +4,7 @@ use Rattle.geometry.proofs.Rules.{test-is-rules}
 use Rattle.geometry.proofs.Numbers.{accepted, cluster-parts, cluster-else, floppy, divisor, drives}
 use Rattle.geometry.proofs.DiscBits.{block-of-disc, disc-of-block, zone-of-disc, on-the-map, zone-starts, zone-ends}
 use Rattle.geometry.proofs.Starts.{start-by-ids, start-in-range, object-690}
+use Rattle.geometry.proofs.RecordAnswers.{dirty}
 use Rattle.geometry.proofs.geometry_laws.Statement.{statement}
 use Rattle.geometry.proofs.geometry_laws.Tie as tie
 
@@ -27,6 +28,7 @@ returns c =
       divisor = divisor;
       object-690 = object-690;
       drives = drives;
+      dirty = dirty;
     }
 
 pub geometry-laws-spec : {M : Type 1} → statement M

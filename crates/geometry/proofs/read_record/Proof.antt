@@ -1,6 +1,6 @@
 -- One answer of RecordAnswers at each return, from the tests of the record that was read.
-use mathlib.Core.Path.{_≡_, sym, ap, _∙_, subst⁻¹}
-use mathlib.Core.Bool.{true}
+use mathlib.Core.Path.{_≡_, sym, ap, ap₂, _∙_, subst⁻¹}
+use mathlib.Core.Bool.{Bool, true, _&&_}
 use borrow.Author.Needs.{needs}
 use borrow.Author.Tests.{not-true, not-false}
 use Rattle.geometry.specs.declared.Geometry.{Geometry}
@@ -37,21 +37,24 @@ geometry-fits-requires : tie.Need-geometry-fits-requires
 geometry-fits-requires c κs =
     subst⁻¹ (λ (g : Geometry). SmallNumbers g) (c .geometry-from .ensures) (fields-give-small _ (test-gives-fields _ (fields (c .before))))
 
-judged : (c : tie.After-geometry-fits) → let start = c .before .before .before .before .before .before .before .before in
-    byFit (c .geometry-fits .result) (c .before .geometry-from .result) ≡ recordOf (start .args .map .now)
+judged : (c : tie.After-both) → let g = c .before .before .before in let start = g .before .before .before .before .before .before .before in
+    byFit (c .both .result) (g .geometry-from .result) ≡ recordOf (start .args .map .now)
 judged c =
-    let g = c .before in
+    let zero = c .before in
+    let fits = zero .before in
+    let g = fits .before in
     let r = g .before .before .before in
     let long = r .before .before in
-    read-geometry (long .before .before .args .map .now) (long .if1 .left) (r .record-in .ensures .0) (fields (g .before)) (g .geometry-from .ensures) (c .geometry-fits .ensures)
+    read-geometry (long .before .before .args .map .now) (long .if1 .left) (r .record-in .ensures .0) (fields (g .before)) (g .geometry-from .ensures)
+    (c .both .ensures ∙ ap₂ {C = Bool} (λ a b. a && b) (fits .geometry-fits .ensures) (zero .zero-bytes .ensures))
 
 returns-3 : tie.Need-returns-3
 returns-3 c =
     let p = c .before .before in
-    reads-record _ (ap read.Refused (c .refuse3 .ensures) ∙ (rw (not-true (p .geometry-fits .result) (c .before .if3 .taken)) at (judged p)))
+    reads-record _ (ap read.Refused (c .refuse3 .ensures) ∙ (rw (not-true (p .both .result) (c .before .if3 .taken)) at (judged p)))
 
 returns-4 : tie.Need-returns-4
-returns-4 c = reads-record _ (rw (not-false (c .before .geometry-fits .result) (c .if3 .left)) at (judged (c .before)))
+returns-4 c = reads-record _ (rw (not-false (c .before .both .result) (c .if3 .left)) at (judged (c .before)))
 
 pub read-record-spec : {M : Type 1} → statement M
 read-record-spec =
@@ -68,6 +71,8 @@ read-record-spec =
     returns-2
     geometry-from-requires
     geometry-fits-requires
+    (λ c κs. search needs)
+    (λ c κs. search needs)
     (λ c κs. search needs)
     returns-3
     returns-4)

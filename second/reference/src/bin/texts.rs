@@ -68,6 +68,15 @@ fn long_text() -> Vec<u8> {
     build(&plain(4, 4 * 2_016 - 480), &zones)
 }
 
+/// Map A with one reserved byte that is not 0 (R-7 of document 02), its zone check
+/// made right again.
+fn dirty_record(at: usize, byte: u8) -> Vec<u8> {
+    let mut map = map_a();
+    map[at] = byte;
+    repair_zone_checks(&mut map, 256);
+    map
+}
+
 /// 255 zones, the most there can be (R-4 of document 02), with at least two
 /// lines for each: only 256-byte blocks are short enough for the program.
 fn most_zones() -> Vec<u8> {
@@ -80,7 +89,7 @@ fn most_zones() -> Vec<u8> {
 type Stored = (Vec<u8>, usize, &'static str);
 
 /// The maps in their order.
-fn stored_maps() -> [Stored; 15] {
+fn stored_maps() -> [Stored; 17] {
     let zone_check = {
         let mut map = three_zones();
         map[512] ^= 2;
@@ -99,6 +108,8 @@ fn stored_maps() -> [Stored; 15] {
         (long_text(), 1_024, "4 0 12\n"),
         (map_a()[..63].to_vec(), 63, "refused 1 0\n"),
         (three_zones()[..512].to_vec(), 512, "refused 1 0\n"),
+        (dirty_record(36, 0x01), 256, "refused 2 0\n"),
+        (dirty_record(63, 0x80), 256, "refused 2 0\n"),
         (zone_check, 768, "refused 3 2\n"),
         (cross_check, 768, "refused 4 0\n"),
         (changed(|map| map[256 + 2] &= 0x7F), 768, "refused 5 1\n"),

@@ -106,6 +106,20 @@ impl Answer {
     pub fn told(&self, number: u32, zone: u32) {
         let told = (self.outcome.number, self.outcome.zone);
         assert_eq!(told, (number, zone), "{}", self.case.line(&self.outcome));
+        if number != 0 {
+            self.nothing_else();
+        }
+    }
+
+    /// "A refusal answers its number and zone, any other number 0, and writes
+    /// nothing."
+    #[track_caller]
+    fn nothing_else(&self) {
+        let (case, outcome) = (&self.case, &self.outcome);
+        assert!(outcome.values.iter().all(|value| *value == 0));
+        assert!(outcome.map == case.map);
+        assert!(outcome.list == case.list);
+        assert!(outcome.image == case.image);
     }
 
     /// The case's number, told with zone 0.

@@ -3,6 +3,7 @@
 //! `order`.
 
 use reference::generate::{build, map_a, repair_zone_checks};
+use reference::geometry::DiscRecord;
 use reference::map::{set_bit, set_number};
 
 use crate::calls::{groups, Cases};
@@ -70,16 +71,27 @@ fn zone_checks(cases: &mut Cases) {
 }
 
 /// "add the word and the carry of the previous addition ... the carry out of
-/// word 0 is dropped": A with carried fields that make a carry at many words,
-/// 1 and 0 among them. Going up instead of down, losing the carry into word 0
-/// or adding the last one would give another check.
+/// word 0 is dropped": A with carried fields that make a carry at words 8, 7, 1
+/// and 0, and a zone that ends 40 bytes earlier, with 36 bytes past its end that
+/// make one at seven more. Going up instead of down, losing a carry or adding the
+/// last one would give another check.
 fn zone_check_carries(cases: &mut Cases) {
-    let mut map = map_a();
-    map[5..8].fill(0xA5);
-    map[24..64].fill(0xA5);
-    repair_zone_checks(&mut map, 256);
-    assert_eq!(map[0], 0xFF);
-    cases.check(&map).done();
+    let record = DiscRecord {
+        zone_spare: 32 + 320,
+        ..plain(1)
+    };
+    let zone = vec![object(2, 12), free(1_204)];
+    let ends_at_216 = build(&disc_of(1_216, record), &[zone]);
+    for (mut map, past_the_zone, check) in
+        [(map_a(), 256..256, 0x32), (ends_at_216, 216..252, 0x28)]
+    {
+        map[5..8].fill(0xD3);
+        map[24..36].fill(0xD3);
+        map[past_the_zone].fill(0xD3);
+        repair_zone_checks(&mut map, 256);
+        assert_eq!(map[0], check);
+        cases.check(&map).done();
+    }
 }
 
 /// "cross checks don't give 255", after 3 and before 6; zone 0 is told.

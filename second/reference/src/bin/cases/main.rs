@@ -1,7 +1,7 @@
 //! Writes the stored cases: `cases OUTDIR` makes OUTDIR/stdin (the cases) and
 //! OUTDIR/stdout (a line for each). The set is fixed: written-out cases first,
-//! a module for each part of document 01 and for of document
-//! 02, then some of a fixed range of seeds.
+//! a module for each part of document 01 and for of
+//! document 02, then some of a fixed range of seeds.
 //! `cases` alone lists the groups with the lines of OUTDIR/stdout they make.
 
 mod bench;
@@ -16,6 +16,7 @@ mod place;
 mod reach;
 mod record;
 mod release;
+mod reserved;
 mod runs;
 mod seeds;
 mod stretches;
@@ -41,7 +42,7 @@ const SIZES: Sizes = Sizes {
 const MOST_BYTES: usize = 3_000_000;
 const MOST_CASES: usize = 1_100;
 
-const MODULES: [(&str, &[Group]); 13] = [
+const MODULES: [(&str, &[Group]); 14] = [
     ("bench", bench::GROUPS),
     ("record", record::GROUPS),
     ("check", check::GROUPS),
@@ -55,6 +56,7 @@ const MODULES: [(&str, &[Group]); 13] = [
     ("closing", closing::GROUPS),
     ("stretches", stretches::GROUPS),
     ("zones", zones::GROUPS),
+    ("reserved", reserved::GROUPS),
 ];
 
 /// A group's place among the cases: its module and function, its first case,

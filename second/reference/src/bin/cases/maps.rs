@@ -2,7 +2,7 @@
 
 use reference::case::{Call, Case};
 use reference::generate::{build, repair_cross_checks, repair_zone_checks};
-use reference::geometry::{DiscRecord, Geometry, DISC_RECORD};
+use reference::geometry::{DiscRecord, Geometry, DISC_RECORD, RESERVED};
 use reference::map::{set_bit, set_number, Owner};
 
 pub fn object(id: u32, length: usize) -> (Owner, usize) {
@@ -104,11 +104,11 @@ pub fn first(zone: u32) -> u32 {
 }
 
 /// Sets every bit that is carried and not judged: the other fields of the
-/// record and the bits past each zone's end.
+/// record, up to the reserved bytes, and the bits past each zone's end.
 pub fn with_ones_outside(mut map: Vec<u8>) -> Vec<u8> {
     let record = DiscRecord::read(&map);
     let geometry = Geometry::accept(&record).expect("a record inside its ranges");
-    map[DISC_RECORD..DISC_RECORD + 60].fill(0xFF);
+    map[DISC_RECORD..RESERVED.start].fill(0xFF);
     record.write(&mut map);
     for block in map.chunks_exact_mut(geometry.sector_size) {
         for block_bit in geometry.end_block_bit()..8 * geometry.sector_size {
