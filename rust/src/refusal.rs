@@ -85,7 +85,7 @@ impl Reason {
     fn words(self) -> &'static str {
         match self {
             Reason::MapLength => "the map's size does not fit its record",
-            Reason::DiscRecord => "the disc record holds a value that is not allowed",
+            Reason::DiscRecord => "the disc record has a wrong value or is followed by rubbish",
             Reason::ZoneCheck => "the zone's check byte does not match its contents",
             Reason::CrossCheck => "the cross check bytes of all zones do not combine to 255",
             Reason::FreeChain => "the zone's chain of free fragments is broken",

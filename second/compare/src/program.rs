@@ -3,7 +3,7 @@
 use std::io::{self, ErrorKind, Read, Write};
 use std::process::{Command, Stdio};
 
-use reference::generate::{map_a, map_b, map_of_zones, repair_zone_checks};
+use reference::generate::{map_a, map_b, map_of_zones, with_bytes};
 use reference::lines::{lines, LONGEST_MAP};
 use reference::map::check;
 
@@ -53,9 +53,7 @@ impl Program {
     pub fn compare_fixed(&mut self) -> io::Result<()> {
         let mut long = map_a();
         long.resize(LONGEST_MAP + 1, 0);
-        let mut dirty = map_a();
-        dirty[63] = 1;
-        repair_zone_checks(&mut dirty, 256);
+        let dirty = with_bytes(&map_a(), 63, &[1]);
         let (shorter, longer) = (map_of_zones(8, 255), map_of_zones(9, 129));
         assert!(shorter.len() <= LONGEST_MAP && longer.len() > LONGEST_MAP);
         assert!(check(&shorter).is_ok() && check(&longer).is_ok());

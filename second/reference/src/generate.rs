@@ -2,7 +2,7 @@
 //! to them, arguments for each call, and runs of calls. A seed decides all.
 
 use crate::case::{Call, Case, Outcome, CALLS};
-use crate::geometry::{DiscRecord, Geometry, MOST_ZONES, RESERVED};
+use crate::geometry::{DiscRecord, Geometry, DISC_RECORD, MOST_ZONES, RESERVED};
 use crate::map::{
     block_mut, check, set_bit, set_number, write_fragments, zone_check_by_words, CheckedMap,
     Fragment, Owner,
@@ -199,6 +199,16 @@ pub fn repair_zone_checks(map: &mut [u8], sector_size: usize) {
     for block in map.chunks_exact_mut(sector_size) {
         block[0] = zone_check_by_words(block);
     }
+}
+
+/// The map with other bytes from one of zone 0's on, its zone checks made right
+/// again.
+pub fn with_bytes(map: &[u8], at: usize, bytes: &[u8]) -> Vec<u8> {
+    let mut map = map.to_vec();
+    map[at..at + bytes.len()].copy_from_slice(bytes);
+    let sector_size = 1 << map[DISC_RECORD];
+    repair_zone_checks(&mut map, sector_size);
+    map
 }
 
 /// Changes the last block's cross check so that all together give 255.

@@ -4,22 +4,13 @@
 use std::collections::BTreeSet;
 
 use reference::generate::{
-    any_map, disc_record, map_690, map_a, map_floppy, repair_zone_checks, valid_map, Rng,
+    any_map, disc_record, map_690, map_a, map_floppy, valid_map, with_bytes, Rng,
 };
 use reference::geometry::{DiscRecord, Geometry, LARGEST_MAP, RESERVED};
 use reference::map::{check, only_reserved_bytes_are_wrong};
 use reference::Refusal;
 
 const REFUSED: Refusal = Refusal { number: 2, zone: 0 };
-
-/// The map with another byte, its zone checks made right again.
-fn with_byte(map: &[u8], at: usize, byte: u8) -> Vec<u8> {
-    let mut map = map.to_vec();
-    map[at] = byte;
-    let sector_size = 1 << map[4];
-    repair_zone_checks(&mut map, sector_size);
-    map
-}
 
 /// Block bytes 5 to 7, 10 to 12, 16 to 19 and 24 to 35 of zone 0: the bytes of the
 /// record that document 01 does not name.
@@ -32,7 +23,7 @@ fn each_byte_is_refused_with_2_whatever_its_value() {
     for map in [map_a(), map_690(), map_floppy()] {
         for at in 36..64 {
             for byte in 1..=255 {
-                let dirty = with_byte(&map, at, byte);
+                let dirty = with_bytes(&map, at, &[byte]);
                 assert_eq!(check(&dirty), Err(REFUSED), "byte {at} is {byte}");
                 assert!(only_reserved_bytes_are_wrong(&dirty));
             }
@@ -48,7 +39,7 @@ fn carried_bytes_are_not_judged() {
     for map in [map_a(), map_690(), map_floppy()] {
         for at in carried() {
             for byte in 0..=255 {
-                let carrying = with_byte(&map, at, byte);
+                let carrying = with_bytes(&map, at, &[byte]);
                 assert!(check(&carrying).is_ok(), "byte {at} is {byte}");
             }
         }
@@ -60,7 +51,7 @@ fn carried_bytes_are_not_judged() {
 fn byte_64_is_not_judged_as_reserved() {
     for map in [map_a(), map_690(), map_floppy()] {
         for byte in 0..=255 {
-            let changed = with_byte(&map, 64, byte);
+            let changed = with_bytes(&map, 64, &[byte]);
             assert_ne!(check(&changed), Err(REFUSED), "byte 64 is {byte}");
         }
     }
@@ -70,7 +61,7 @@ fn byte_64_is_not_judged_as_reserved() {
 #[test]
 fn judged_between_the_two_lengths() {
     for at in 36..64 {
-        let dirty = with_byte(&map_a(), at, 1);
+        let dirty = with_bytes(&map_a(), at, &[1]);
         for length in 0..64 {
             assert_eq!(check(&dirty[..length]), Err(Refusal::plain(1)));
         }

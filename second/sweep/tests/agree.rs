@@ -2,7 +2,7 @@
 //! with stretches at odd places.
 
 use reference::generate::{
-    any_map, disc_record, map_690, map_a, map_b, map_floppy, repair_zone_checks, valid_map, Rng,
+    any_map, disc_record, map_690, map_a, map_b, map_floppy, valid_map, with_bytes, Rng,
 };
 use reference::geometry::{DiscRecord, LARGEST_MAP};
 use reference::read;
@@ -97,15 +97,6 @@ fn maps_of_document_01() {
     }
 }
 
-/// The map with another byte, its zone checks made right again.
-fn with_byte(map: &[u8], at: usize, byte: u8) -> Vec<u8> {
-    let mut map = map.to_vec();
-    map[at] = byte;
-    let sector_size = 1 << map[4];
-    repair_zone_checks(&mut map, sector_size);
-    map
-}
-
 /// "A map with any of block bytes 36 to 63 of zone 0 not 0 is refused with 2" (R-7
 /// of document 02): each of them alone. Byte 35 is carried, and byte 64 has
 /// allocation bits.
@@ -115,10 +106,10 @@ fn dirty_records() {
     for map in [map_b(), map_690(), map_floppy()] {
         for byte in 1..=255 {
             for at in 36..64 {
-                assert_eq!(number(&with_byte(&map, at, byte)), 2, "byte {at}");
+                assert_eq!(number(&with_bytes(&map, at, &[byte])), 2, "byte {at}");
             }
-            assert_eq!(number(&with_byte(&map, 35, byte)), 0);
-            assert_ne!(number(&with_byte(&map, 64, byte)), 2);
+            assert_eq!(number(&with_bytes(&map, 35, &[byte])), 0);
+            assert_ne!(number(&with_bytes(&map, 64, &[byte])), 2);
         }
     }
 }
@@ -126,7 +117,7 @@ fn dirty_records() {
 /// "Order: 1 (under 64), 2, 1, 3".
 #[test]
 fn dirty_records_of_other_lengths() {
-    let mut dirty = with_byte(&map_b(), 36, 1);
+    let mut dirty = with_bytes(&map_b(), 36, &[1]);
     assert_eq!(agree(0, &dirty[..63], &[], 0, 0), 1);
     assert_eq!(agree(0, &dirty[..64], &[], 0, 0), 2);
     assert_eq!(agree(0, &dirty[..255], &[], 0, 0), 2);

@@ -4,7 +4,7 @@
 //! map's other bytes are 0.
 
 use reference::generate::{
-    build, map_690, map_a, map_of_zones, repair_cross_checks, repair_zone_checks,
+    build, map_690, map_a, map_of_zones, repair_cross_checks, repair_zone_checks, with_bytes,
 };
 use reference::geometry::DiscRecord;
 use reference::lines::{lines, LONGEST_MAP};
@@ -68,15 +68,6 @@ fn long_text() -> Vec<u8> {
     build(&plain(4, 4 * 2_016 - 480), &zones)
 }
 
-/// Map A with one reserved byte that is not 0 (R-7 of document 02), its zone check
-/// made right again.
-fn dirty_record(at: usize, byte: u8) -> Vec<u8> {
-    let mut map = map_a();
-    map[at] = byte;
-    repair_zone_checks(&mut map, 256);
-    map
-}
-
 /// 255 zones, the most there can be (R-4 of document 02), with at least two
 /// lines for each: only 256-byte blocks are short enough for the program.
 fn most_zones() -> Vec<u8> {
@@ -108,8 +99,9 @@ fn stored_maps() -> [Stored; 17] {
         (long_text(), 1_024, "4 0 12\n"),
         (map_a()[..63].to_vec(), 63, "refused 1 0\n"),
         (three_zones()[..512].to_vec(), 512, "refused 1 0\n"),
-        (dirty_record(36, 0x01), 256, "refused 2 0\n"),
-        (dirty_record(63, 0x80), 256, "refused 2 0\n"),
+        // A reserved byte that is not 0 (R-7 of document 02).
+        (with_bytes(&map_a(), 36, &[0x01]), 256, "refused 2 0\n"),
+        (with_bytes(&map_a(), 63, &[0x80]), 256, "refused 2 0\n"),
         (zone_check, 768, "refused 3 2\n"),
         (cross_check, 768, "refused 4 0\n"),
         (changed(|map| map[256 + 2] &= 0x7F), 768, "refused 5 1\n"),

@@ -7,7 +7,9 @@
 //! checks are right where nothing else is said.
 
 use reference::case::{Call, Case};
-use reference::generate::{build, map_a, map_b, repair_cross_checks, repair_zone_checks};
+use reference::generate::{
+    build, map_a, map_b, repair_cross_checks, repair_zone_checks, with_bytes,
+};
 use reference::geometry::{DiscRecord, RESERVED};
 use reference::map::Owner;
 
@@ -41,18 +43,9 @@ groups![
     edits_where_free_fragments_touch,
 ];
 
-/// The map with other bytes from one of zone 0's on, its zone checks made right
-/// again.
-fn with_bytes(mut map: Vec<u8>, at: usize, bytes: &[u8]) -> Vec<u8> {
-    map[at..at + bytes.len()].copy_from_slice(bytes);
-    let sector_size = 1 << map[4];
-    repair_zone_checks(&mut map, sector_size);
-    map
-}
-
 /// Map A with these bytes from byte `at` on.
 fn a_with(at: usize, bytes: &[u8]) -> Vec<u8> {
-    with_bytes(map_a(), at, bytes)
+    with_bytes(&map_a(), at, bytes)
 }
 
 /// The number that the check answers, in no case of its own.
@@ -93,7 +86,7 @@ fn bits_of_the_last_four_bytes(cases: &mut Cases) {
         [0, 0, 0, 0x08],
         [0x01, 0x02, 0x03, 0x04],
     ] {
-        cases.check(&with_bytes(map_b(), 60, &bytes)).gives(2);
+        cases.check(&with_bytes(&map_b(), 60, &bytes)).gives(2);
     }
 }
 
@@ -232,17 +225,17 @@ fn larger_sectors(cases: &mut Cases) {
     for (record, rest) in [(clusters_of_four(1), 3_568), (clusters_of_eight(1), 7_664)] {
         let map = build(&record, &[vec![object(2, 16), free(rest)]]);
         for at in [36, 63] {
-            let dirty = with_bytes(map.clone(), at, &[0x04]);
+            let dirty = with_bytes(&map, at, &[0x04]);
             cases.check(&dirty).gives(2);
         }
     }
     let map = build(&clusters_of_four(1), &[vec![object(2, 16), free(3_568)]]);
-    cases.check(&with_bytes(map, 35, &[0x04])).done();
+    cases.check(&with_bytes(&map, 35, &[0x04])).done();
 }
 
 /// "of zone 0", of three.
 fn several_zones(cases: &mut Cases) {
-    let map = with_bytes(three_zones(), 49, &[0x20]);
+    let map = with_bytes(&three_zones(), 49, &[0x20]);
     cases.check(&map).gives(2);
 }
 
@@ -254,7 +247,7 @@ fn before_the_length(cases: &mut Cases) {
     cases.check(&dirty.repeat(2)).gives(2);
     cases.check(&dirty[..255]).gives(2);
     let zones = [vec![free(1_536)], vec![object(2, 12), free(2_004)]];
-    let dirty = with_bytes(build(&plain(2), &zones), 47, &[0x01]);
+    let dirty = with_bytes(&build(&plain(2), &zones), 47, &[0x01]);
     cases.check(&dirty[..256]).gives(2);
     for at in [36, 63] {
         cases.check(&a_with(at, &[0x01])[..64]).gives(2);
@@ -284,7 +277,7 @@ fn before_the_checks(cases: &mut Cases) {
         fault(&mut map);
         repair_zone_checks(&mut map, 256);
         assert_eq!(number_of(&map), number);
-        cases.check(&with_bytes(map, 58, &[0x80])).gives(2);
+        cases.check(&with_bytes(&map, 58, &[0x80])).gives(2);
     }
     // 3: the zone check is still A's.
     let mut map = map_a();
@@ -294,14 +287,14 @@ fn before_the_checks(cases: &mut Cases) {
 
 /// The same in zones 1 and 2 of three; 2 tells zone 0.
 fn before_the_checks_of_later_zones(cases: &mut Cases) {
-    let mut map = with_bytes(three_zones(), 36, &[0x40]);
+    let mut map = with_bytes(&three_zones(), 36, &[0x40]);
     CHECK_2(&mut map);
     cases.check(&map).gives(2);
     for fault in [LINK_1, DISC_END] {
         let mut map = three_zones();
         fault(&mut map);
         repair_cross_checks(&mut map, 256);
-        cases.check(&with_bytes(map, 36, &[0x40])).gives(2);
+        cases.check(&with_bytes(&map, 36, &[0x40])).gives(2);
     }
 }
 
@@ -333,7 +326,7 @@ fn number_on_b(case: &Case) -> u32 {
 
 /// "A map ... is refused with 2": by every call, with arguments that do on B.
 fn every_call(cases: &mut Cases) {
-    let map = with_bytes(map_b(), 55, &[0x02]);
+    let map = with_bytes(&map_b(), 55, &[0x02]);
     let before = cases.0.len();
     cases.check(&map).gives(2);
     cases.list(&map, 5, 4).gives(2);
@@ -351,7 +344,7 @@ fn every_call(cases: &mut Cases) {
 /// "then the rest in table order": 2 comes before all that is wrong with the
 /// arguments.
 fn every_call_with_wrong_arguments(cases: &mut Cases) {
-    let map = with_bytes(map_b(), 55, &[0x02]);
+    let map = with_bytes(&map_b(), 55, &[0x02]);
     let before = cases.0.len();
     cases.list(&map, 0, 0).gives(2);
     cases.free(&map, 0).gives(2);
@@ -369,7 +362,7 @@ fn every_call_with_wrong_arguments(cases: &mut Cases) {
 /// "9, edits: two free fragments of a zone touch": 2 comes before it.
 fn edits_where_free_fragments_touch(cases: &mut Cases) {
     let zone = vec![object(2, 12), object(5, 20), free(1_000), free(504)];
-    let map = with_bytes(build(&plain(1), &[zone]), 55, &[0x02]);
+    let map = with_bytes(&build(&plain(1), &[zone]), 55, &[0x02]);
     cases.release(&map, 5, 2).gives(2);
     cases.place(&map, 6, &[32, 12]).gives(2);
     cases.claim(&map, 1).gives(2);
