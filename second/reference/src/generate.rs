@@ -2,7 +2,7 @@
 //! to them, arguments for each call, and runs of calls. A seed decides all.
 
 use crate::case::{Call, Case, Outcome, CALLS};
-use crate::geometry::{DiscRecord, Geometry, DISC_RECORD, MOST_ZONES, RESERVED};
+use crate::geometry::{DiscRecord, Geometry, MOST_ZONES, RESERVED};
 use crate::map::{
     block_mut, check, set_bit, set_number, write_fragments, zone_check_by_words, CheckedMap,
     Fragment, Owner,
@@ -201,13 +201,16 @@ pub fn repair_zone_checks(map: &mut [u8], sector_size: usize) {
     }
 }
 
-/// The map with other bytes from one of zone 0's on, its zone checks made right
-/// again.
+/// A whole map with other bytes from one of zone 0's on, all its zone checks made
+/// right again. Its blocks are those of the record before the change, so that a
+/// byte of the record may be changed too.
 pub fn with_bytes(map: &[u8], at: usize, bytes: &[u8]) -> Vec<u8> {
+    let record = DiscRecord::read(map);
+    let geometry = Geometry::accept(&record).expect("a record inside its ranges");
+    assert_eq!(map.len(), geometry.nzones * geometry.sector_size);
     let mut map = map.to_vec();
     map[at..at + bytes.len()].copy_from_slice(bytes);
-    let sector_size = 1 << map[DISC_RECORD];
-    repair_zone_checks(&mut map, sector_size);
+    repair_zone_checks(&mut map, geometry.sector_size);
     map
 }
 

@@ -13,6 +13,16 @@ pub const DISC_RECORD: usize = 4;
 /// the disc, the other 28 bytes are 0, being reserved" (source document 001).
 pub const RESERVED: Range<usize> = DISC_RECORD + 32..DISC_RECORD + 60;
 
+/// Block bytes 5 to 7, 10 to 12, 16 to 19 and 24 to 35 of zone 0, the bytes of the
+/// 32-byte record that document 01 does not name: "Other fields are carried and not
+/// judged."
+pub const CARRIED: [Range<usize>; 4] = [
+    DISC_RECORD + 1..DISC_RECORD + 4,
+    DISC_RECORD + 6..DISC_RECORD + 9,
+    DISC_RECORD + 12..DISC_RECORD + 16,
+    DISC_RECORD + 20..DISC_RECORD + 32,
+];
+
 /// Zone 0 has this many allocation bits fewer than every other zone.
 pub const ZONE_0_SHORTFALL: usize = 480;
 

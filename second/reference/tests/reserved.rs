@@ -6,16 +6,15 @@ use std::collections::BTreeSet;
 use reference::generate::{
     any_map, disc_record, map_690, map_a, map_floppy, valid_map, with_bytes, Rng,
 };
-use reference::geometry::{DiscRecord, Geometry, LARGEST_MAP, RESERVED};
+use reference::geometry::{DiscRecord, Geometry, CARRIED, LARGEST_MAP, RESERVED};
 use reference::map::{check, only_reserved_bytes_are_wrong};
 use reference::Refusal;
 
 const REFUSED: Refusal = Refusal { number: 2, zone: 0 };
 
-/// Block bytes 5 to 7, 10 to 12, 16 to 19 and 24 to 35 of zone 0: the bytes of the
-/// record that document 01 does not name.
+/// Each carried byte of the record.
 fn carried() -> impl Iterator<Item = usize> {
-    [5..8, 10..13, 16..20, 24..36].into_iter().flatten()
+    CARRIED.into_iter().flatten()
 }
 
 #[test]

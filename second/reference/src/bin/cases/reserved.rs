@@ -10,7 +10,7 @@ use reference::case::{Call, Case};
 use reference::generate::{
     build, map_a, map_b, repair_cross_checks, repair_zone_checks, with_bytes,
 };
-use reference::geometry::{DiscRecord, RESERVED};
+use reference::geometry::{DiscRecord, CARRIED, RESERVED};
 use reference::map::Owner;
 
 use crate::calls::{groups, Cases};
@@ -158,16 +158,14 @@ fn byte_12_alone(cases: &mut Cases) {
 
 /// The map with another value in each carried byte of the record, none of them 0.
 fn with_carried_bytes(mut map: Vec<u8>) -> Vec<u8> {
-    let carried = [5..8, 10..13, 16..20, 24..36].into_iter().flatten();
-    for (index, at) in carried.enumerate() {
+    for (index, at) in CARRIED.into_iter().flatten().enumerate() {
         map[at] = 0xE9 - index as u8;
     }
     repair_zone_checks(&mut map, 256);
     map
 }
 
-/// "Other fields are carried and not judged": block bytes 24 to 35, and all of
-/// them: 5 to 7, 10 to 12, 16 to 19 and these.
+/// "Other fields are carried and not judged": block bytes 24 to 35, and all of them.
 fn carried_bytes(cases: &mut Cases) {
     cases.check(&a_with(24, &[0xFF; 12])).done();
     cases.check(&with_carried_bytes(map_a())).done();
