@@ -2,7 +2,7 @@
 #include "shoalswift.h"
 
 int main(void) {
-    static uint8_t map[255 * 1024 + 1]; /* the longest map and a byte, so that a longer file is refused */
+    static uint8_t map[20971 * 1024 + 1]; /* the longest map and a byte, so that a longer file is refused */
     uint32_t sector, unit, zones, ids, zone, list[2 * 512];
     uint64_t disc_size, pairs;
     size_t length = fread(map, 1, sizeof map, stdin);

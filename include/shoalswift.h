@@ -1,4 +1,4 @@
-/* Shoalswift: maps of discs in Acorn's E format.
+/* Shoalswift: maps of discs in Acorn's E and E+ formats.
  *
  * Every function answers a refusal number, 0 where the call is accepted. *zone is always written: the zone told, or 0. Every other
  * number handed in by pointer is always written too, 0 where the call is refused. A refused call changes no byte of map, image or
@@ -11,8 +11,8 @@
  * A map is the blocks of all zones, zone 0 first. Lists are pairs of 32-bit numbers: disc bit, length in map bits.
  *
  *  1  map shorter than 64 bytes, or not nzones*S         10  id not on the map
- *  2  record outside its ranges, or its reserved bytes   11  id already on the map (place)
- *     (36 to 63 of the map) not 0                        12  list empty, odd, out of object order, overlapping, across zones, off
+ *  2  record outside its ranges, or bytes of the map     11  id already on the map (place)
+ *     not 0 that have to be (36 to 63; E+: 40 to 43)     12  list empty, odd, out of object order, overlapping, across zones, off
  *  3  a zone check differs                                   the map, not in clusters or too short; claim of 0 bytes
  *  4  cross checks don't give 255                        13  a listed bit isn't free, or a leftover of 1 to m-1 free bits
  *  5  FreeLink's top bit clear, or a link that lands     14  claim: no unused id (cannot arise)
@@ -20,7 +20,8 @@
  *  6  a fragment without room, closing bit or whole      16  start offset plus position past the object; stretch past the disc
  *     clusters                                           17  too few entries for the pairs
  *  7  id, object 2 or disc-end rule broken
- *  8  id or internal number outside its range
+ *  8  id or internal number outside its range;
+ *     address: any number on an E+ disc
  *  9  edits: two free fragments of a zone touch          3, 5, 6, 7 and 9 tell the lowest such zone, all others zone 0.
  *
  * The stack that a call needs on x86-64, in bytes below its caller's frame: what `make stack` measures on maps with the most
@@ -69,7 +70,7 @@ uint32_t shoalswift_list(const uint8_t *map, size_t map_len, uint32_t id, uint32
 /* Writes the free spans, ascending, a pair for each free fragment; *pairs is their number. Further: 17. */
 uint32_t shoalswift_free(const uint8_t *map, size_t map_len, uint32_t *list, size_t list_len, uint64_t *pairs, uint32_t *zone);
 
-/* The disc address of a byte of the file with internal number n. Further: 8, 10, 16. */
+/* The disc address of a byte of the file with internal number n. Further: 8, on an E+ disc whatever n is; 10, 16. */
 uint32_t shoalswift_address(const uint8_t *map, size_t map_len, uint32_t n, uint64_t position, uint64_t *address, uint32_t *zone);
 
 /* Writes the fill at each address of an object, or of free space, within a stretch of image that starts at disc address first;

@@ -66,7 +66,7 @@ pub fn free(map: &[u8], list: &mut [u32]) -> Result<usize, Refusal> {
 }
 
 /// The disc address of a byte of the file with internal number `n`.
-/// Refused further: 8, 10, 16.
+/// Refused further: 8, on an E+ disc whatever `n` is; 10, 16.
 pub fn address(map: &[u8], n: u32, position: u64) -> Result<u64, Refusal> {
     let (bytes, length) = (map.as_ptr(), map.len());
     // SAFETY: the map is only read.

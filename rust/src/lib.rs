@@ -1,5 +1,5 @@
 //! Safe calls to Shoalswift, a proved library for the maps of discs in Acorn's
-//! E format.
+//! E and E+ formats.
 //!
 //! A map is one slice: the blocks of all zones, zone 0 first. Lists are pairs
 //! of entries: disc bit, then length in map bits. Any bytes and any numbers may

@@ -11,8 +11,8 @@ use std::fmt;
 pub enum Reason {
     /// The map has the wrong number of bytes.
     MapLength = 1,
-    /// The disc record has a value that is not allowed, or a reserved byte that
-    /// is not 0.
+    /// The disc record has a value that is not allowed, or a byte that has to be
+    /// 0 is not.
     DiscRecord = 2,
     /// A zone's check byte is wrong.
     ZoneCheck = 3,
@@ -24,7 +24,8 @@ pub enum Reason {
     Fragment = 6,
     /// A fragment has an owner it must not have.
     Owner = 7,
-    /// An id or internal number is out of range for this call.
+    /// An id or internal number is out of range for this call. On an E+ disc
+    /// `address` takes no number at all.
     NumberRange = 8,
     /// Free fragments lie side by side, so the map cannot be edited.
     TouchingHoles = 9,
@@ -91,7 +92,7 @@ impl Reason {
             Reason::FreeChain => "the zone's chain of free fragments is broken",
             Reason::Fragment => "the zone has a fragment with a wrong length or without an end",
             Reason::Owner => "the zone has a fragment whose owner is not allowed there",
-            Reason::NumberRange => "the object's number is outside what this call takes",
+            Reason::NumberRange => "this call takes no such number on this disc",
             Reason::TouchingHoles => "the zone has free fragments side by side, so no edit is made",
             Reason::Absent => "the map has no such object",
             Reason::Present => "the map has an object with this number already",

@@ -1,7 +1,7 @@
 //! Whole discs as real ones are laid out, small and made here: an 800K floppy
 //! and two hard discs of five zones. Files are written into the image, one is
 //! swept and released, and every other must stay as it was. Of a drive of 255
-//! zones there is the map alone.
+//! zones and of an E+ disc of 1,000 there is the map alone.
 
 use shoalswift::{
     address, check, claim, free, geometry, list, place, release, sweep_free, sweep_object,
@@ -14,9 +14,10 @@ struct Shape {
     log2secsize: u8,
     idlen: u8,
     log2bpmb: u8,
-    nzones: u8,
+    nzones: u16,
     zone_spare: u16,
     disc_size: u32,
+    version: u8,
 }
 
 const FLOPPY: Shape = Shape {
@@ -26,6 +27,7 @@ const FLOPPY: Shape = Shape {
     nzones: 1,
     zone_spare: 1312,
     disc_size: 819_200,
+    version: 0,
 };
 
 /// Clusters of 4 map bits; the last 64 map bits lie past the disc's end.
@@ -36,6 +38,7 @@ const HARD_DISC_512: Shape = Shape {
     nzones: 5,
     zone_spare: 32,
     disc_size: (5 * 4064 - 480 - 64) * 128,
+    version: 0,
 };
 
 /// One map bit for each sector; the disc ends where its map does.
@@ -46,9 +49,10 @@ const HARD_DISC_256: Shape = Shape {
     nzones: 5,
     zone_spare: 32,
     disc_size: (5 * 2016 - 480) * 256,
+    version: 0,
 };
 
-/// As many zones as there can be (document 02, R-4).
+/// As many zones as there can be in version 0 (document 02, R-4).
 const DRIVE_OF_255_ZONES: Shape = Shape {
     log2secsize: 8,
     idlen: 15,
@@ -56,6 +60,19 @@ const DRIVE_OF_255_ZONES: Shape = Shape {
     nzones: 255,
     zone_spare: 32,
     disc_size: (255 * 2016 - 480) * 256,
+    version: 0,
+};
+
+/// E+ (document 02, R-12), with the longest ids: 100 in a zone, so that those of
+/// the higher zones have 17 bits.
+const PLUS_OF_1000_ZONES: Shape = Shape {
+    log2secsize: 8,
+    idlen: 19,
+    log2bpmb: 9,
+    nzones: 1000,
+    zone_spare: 32,
+    disc_size: (1000 * 2016 - 480) * 512,
+    version: 1,
 };
 
 impl Shape {
@@ -127,7 +144,7 @@ impl Shape {
         if zone == self.zones() / 2 {
             self.system_bits()
         } else if zone == 0 {
-            4096 / self.bytes_per_map_bit()
+            self.shortest().max(4096 / self.bytes_per_map_bit())
         } else {
             0
         }
@@ -162,7 +179,10 @@ fn write_record(map: &mut [u8], shape: &Shape) {
     map[4] = shape.log2secsize;
     map[8] = shape.idlen;
     map[9] = shape.log2bpmb;
-    map[13] = shape.nzones;
+    let [low, high] = shape.nzones.to_le_bytes();
+    map[13] = low;
+    map[46] = high;
+    map[48] = shape.version;
     map[14..16].copy_from_slice(&shape.zone_spare.to_le_bytes());
     map[20..24].copy_from_slice(&shape.disc_size.to_le_bytes());
     map[26..36].copy_from_slice(b"BenchDisc0");
@@ -514,14 +534,13 @@ fn cross_checks_change_by_the_rule_and_no_other_zone_does() {
     }
 }
 
-/// Its start zone is 200, and it goes round past the last zone.
-#[test]
-fn an_object_goes_round_255_zones() {
-    let shape = DRIVE_OF_255_ZONES;
-    let fresh = fresh_map(&shape);
+/// An object with a piece in each of these zones, in its object order from its
+/// start zone on: placed, listed, and released again.
+fn goes_round(shape: &Shape, zones: &[usize; 5]) {
+    let fresh = fresh_map(shape);
     assert_eq!(geometry(&fresh), Ok(shape.geometry()));
-    let id = 200 * shape.ids_per_zone();
-    let entries = one_piece_in_each(&shape, &[200, 254, 0, 127, 128]);
+    let id = zones[0] as u32 * shape.ids_per_zone();
+    let entries = one_piece_in_each(shape, zones);
     let mut map = fresh.clone();
     assert_eq!(place(&mut map, id, &entries), Ok(()));
     assert_eq!(pieces(&map, id), pairs_of(&entries));
@@ -529,7 +548,38 @@ fn an_object_goes_round_255_zones() {
     assert_eq!(release(&mut map, id, &mut returned), Ok(5));
     assert_eq!(returned[..], entries);
     assert!(map == fresh);
-    map[254 * 256 + 100] ^= 4;
+    let last = shape.zones() - 1;
+    map[last * shape.sector() + 100] ^= 4;
     let refusal = check(&map).unwrap_err();
-    assert_eq!((refusal.reason, refusal.zone), (Reason::ZoneCheck, 254));
+    assert_eq!(
+        (refusal.reason, refusal.zone),
+        (Reason::ZoneCheck, last as u32)
+    );
+}
+
+#[test]
+fn an_object_goes_round_255_zones() {
+    goes_round(&DRIVE_OF_255_ZONES, &[200, 254, 0, 127, 128]);
+}
+
+#[test]
+fn an_object_goes_round_1000_zones() {
+    goes_round(&PLUS_OF_1000_ZONES, &[700, 999, 0, 255, 256]);
+}
+
+#[test]
+fn a_claim_on_e_plus_is_undone_and_has_no_address() {
+    let fresh = fresh_map(&PLUS_OF_1000_ZONES);
+    let mut map = fresh.clone();
+    let claimed = claim(&mut map, 1_000_000).expect("there is room");
+    assert_eq!(pieces(&map, claimed.id).len(), 1);
+    for n in [0, 0x200, claimed.id << 8, u32::MAX] {
+        let refusal = address(&map, n, 0).unwrap_err();
+        assert_eq!((refusal.reason, refusal.zone), (Reason::NumberRange, 0));
+    }
+    assert_eq!(release(&mut map, claimed.id, &mut [0; 2]), Ok(1));
+    assert!(map == fresh);
+    map[0] ^= 1;
+    let damaged = address(&map, 0x200, 0).unwrap_err();
+    assert_eq!((damaged.reason, damaged.zone), (Reason::ZoneCheck, 0));
 }

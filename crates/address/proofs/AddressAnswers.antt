@@ -5,7 +5,7 @@ use mathlib.Core.List.{List, _++_}
 use Prim.Native.Nat.{ℕ, _+_, _-_, _*_, _/_, _<_, _≤_}
 use native.Mathlib.Nat.{mul-le-mul, sub-zero}
 use native.Mathlib.Omega.{arith}
-use borrow.Author.Tests.{lt-ltb, le-ltb}
+use borrow.Author.Tests.{lt-ltb, le-ltb, eq-eqb, ne-eqb}
 use Rattle.geometry.specs.declared.Geometry.{Geometry}
 use Rattle.geometry.specs.declared.Refusal.{Refusal}
 use Rattle.geometry.specs.declared.Start.the-variants as start
@@ -68,15 +68,19 @@ module _ {m : List ℕ} {g : Geometry} (a : AcceptedMap m g) (n position : ℕ) 
   told : {k z : ℕ} {r : Refusal} → addressRead g n position (a .zones) ≡ refused k z → r ≡ refusal k z → reached.Refused r ≡ addressAnswer (addressFound m n position)
   told e er = ap reached.Refused er ∙ ap addressAnswer (sym (address-read ∙ e))
 
-  -- 8: the number, and the id
-  pub number-high : 16777216 ≤ n → {r : Refusal} → r ≡ refusal 8 0 → reached.Refused r ≡ addressAnswer (addressFound m n position)
-  number-high h er = told (rw (le-ltb n 16777216 h)) er
+  -- 8: the edition, the number, and the id
+  pub edition-refused : g .version ≡ 1 → {r : Refusal} → r ≡ refusal 8 0 → reached.Refused r ≡ addressAnswer (addressFound m n position)
+  edition-refused v er = told (rw (eq-eqb (g .version) 1 v)) er
 
-  pub start-refused : n < 16777216 → {r : Refusal} → startOf g 2 (n / 256) ≡ start.Refused r → reached.Refused r ≡ addressAnswer (addressFound m n position)
-  start-refused low e = let k = no-id g 2 (n / 256) _ e in told (rw (lt-ltb n 16777216 low) (k .0)) (k .1)
+  module _ (v : g .version ≡ 1 → ⊥) where
+    pub number-high : 16777216 ≤ n → {r : Refusal} → r ≡ refusal 8 0 → reached.Refused r ≡ addressAnswer (addressFound m n position)
+    number-high h er = told (rw (ne-eqb (g .version) 1 v, le-ltb n 16777216 h)) er
+
+    pub start-refused : n < 16777216 → {r : Refusal} → startOf g 2 (n / 256) ≡ start.Refused r → reached.Refused r ≡ addressAnswer (addressFound m n position)
+    start-refused low e = let k = no-id g 2 (n / 256) _ e in told (rw (ne-eqb (g .version) 1 v, lt-ltb n 16777216 low) (k .0)) (k .1)
 
 -- a number that is a file's
-module _ {m : List ℕ} {g : Geometry} (n position : ℕ) {s count : ℕ} (o : Object m g 2 (n / 256) s count) (low : n < 16777216) where
+module _ {m : List ℕ} {g : Geometry} (n position : ℕ) {s count : ℕ} (o : Object m g 2 (n / 256) s count) (v : g .version ≡ 1 → ⊥) (low : n < 16777216) where
   abbrev pieces : List Pair
   pieces = heldFrom g (n / 256) m s (g .zones - s) ++ heldFrom g (n / 256) m 0 s
 
@@ -85,11 +89,11 @@ module _ {m : List ℕ} {g : Geometry} (n position : ℕ) {s count : ℕ} (o : O
 
   -- 10
   pub no-object : count ≡ 0 → {r : Refusal} → r ≡ refusal 10 0 → reached.Refused r ≡ addressAnswer (addressFound m n position)
-  no-object h er = told (o .accepted) n position (rw (lt-ltb n 16777216 low) (no-pieces o byte h)) er
+  no-object h er = told (o .accepted) n position (rw (ne-eqb (g .version) 1 v, lt-ltb n 16777216 low) (no-pieces o byte h)) er
 
   module _ (some : count ≡ 0 → ⊥) where
     object-there : addressRead g n position (o .accepted .zones) ≡ byte pieces
-    object-there = rw (lt-ltb n 16777216 low) (some-pieces o byte some)
+    object-there = rw (ne-eqb (g .version) 1 v, lt-ltb n 16777216 low) (some-pieces o byte some)
 
     -- 16
     pub past-object : 4398046511104 ≤ position → {r : Refusal} → r ≡ refusal 16 0 → reached.Refused r ≡ addressAnswer (addressFound m n position)

@@ -1,13 +1,13 @@
 -- The call answers by the table: 8 and 10 as for `list`, and a byte below the object's length is found at its address.
 use mathlib.Core.Path.{_≡_, refl, sym, ap, _∙_}
-use mathlib.Core.Bool.{false≢true}
+use mathlib.Core.Bool.{Bool, not, _&&_, false≢true}
 use mathlib.Core.List.{List, [], _∷_}
 use mathlib.Core.Logic.{_⊎_, inl, inr}
 use Prim.Native.Nat.{ℕ, _+_, _*_, _^_, _<_, _≤_}
 use native.Mathlib.Omega.{arith}
-use lib.Dec.{leb, ltb}
+use lib.Dec.{eqb, leb, ltb}
 use lib.ListN.{getD}
-use borrow.Author.Tests.{le-leb, lt-ltb, leb-true, ltb-true, ltb-false}
+use borrow.Author.Tests.{le-leb, lt-ltb, leb-true, ltb-true, ltb-false, eqb-true, eqb-false, not-true}
 use Rattle.bits.proofs.Tests.{by-test, both, and-true}
 use Rattle.geometry.specs.declared.Geometry.{Geometry}
 use Rattle.geometry.specs.Record.{geometryOf}
@@ -25,22 +25,32 @@ use Rattle.address.proofs.SeekOn.{seek-past}
 use Rattle.address.proofs.Joined.{length-total, joined-found}
 
 -- 8
-pub fits : (n id end : ℕ) → n < 16777216 → (2 ≤ id) × (id < end) → ((2 ≤ id) × (id < end) → ⊥) ⊎ (2 ^ 24 ≤ n) → ⊥
-fits n id end low k (inl o) = o k
-fits n id end low k (inr f) = let f2 : 16777216 ≤ n = f in omega arith
+abbrev pub NoNumber : Geometry → ℕ → Type 0
+NoNumber g n = (g .version ≡ 1) ⊎ (((2 ≤ idOf n) × (idOf n < g .ids * g .zones) → ⊥) ⊎ (2 ^ 24 ≤ n))
+
+pub fits : (g : Geometry) (n : ℕ) → (g .version ≡ 1 → ⊥) → n < 16777216 → (2 ≤ idOf n) × (idOf n < g .ids * g .zones) → NoNumber g n → ⊥
+fits g n v low k (inl e) = v e
+fits g n v low k (inr (inl o)) = o k
+fits g n v low k (inr (inr f)) = let f2 : 16777216 ≤ n = f in omega arith
 
 number-line : {A : Type 0} (ls : List Refusing) (a : A) (g : Geometry) (n : ℕ) (r : Answer A) → ByLines ls a r
-    → ByLines (line 8 (((2 ≤ idOf n) × (idOf n < g .ids * g .zones) → ⊥) ⊎ (2 ^ 24 ≤ n)) ∷ ls) a (unless (numberFits g n) 8 r)
+    → ByLines (line 8 (NoNumber g n) ∷ ls) a (unless (numberFits g n) 8 r)
 number-line ls a g n r h =
     let id : ℕ = idOf n in
     let end : ℕ = g .ids * g .zones in
-    unless-line (numberFits g n) 8 (((2 ≤ id) × (id < end) → ⊥) ⊎ (2 ^ 24 ≤ n)) ls a r
-    (λ t. by-test (ltb n 16777216)
-    (λ u. inl (λ k. false≢true (sym t ∙ and-true (ltb n 16777216) (idFrom 2 g id) u (and-true (leb 2 id) (ltb id end) (le-leb 2 id (k .0)) (lt-ltb id end (k .1))))))
-    (λ u. inr (ltb-false n 16777216 u)))
-    (λ t. let p = both (ltb n 16777216) (idFrom 2 g id) t in
+    let e : Bool = not (eqb (g .version) 1) in
+    unless-line (numberFits g n) 8 (NoNumber g n) ls a r
+    (λ t. by-test (eqb (g .version) 1)
+    (λ v. inl (eqb-true (g .version) 1 v))
+    (λ v. by-test (ltb n 16777216)
+    (λ u. inr (inl (λ k. false≢true (sym t
+    ∙ and-true e (ltb n 16777216 && idFrom 2 g id) (ap not v)
+    (and-true (ltb n 16777216) (idFrom 2 g id) u (and-true (leb 2 id) (ltb id end) (le-leb 2 id (k .0)) (lt-ltb id end (k .1))))))))
+    (λ u. inr (inr (ltb-false n 16777216 u)))))
+    (λ t. let o = both e (ltb n 16777216 && idFrom 2 g id) t in
+    let p = both (ltb n 16777216) (idFrom 2 g id) (o .1) in
     let q = both (leb 2 id) (ltb id end) (p .1) in
-    fits n id end (ltb-true n 16777216 (p .0)) (leb-true 2 id (q .0), ltb-true id end (q .1)))
+    fits g n (eqb-false (g .version) 1 (not-true (eqb (g .version) 1) (o .0))) (ltb-true n 16777216 (p .0)) (leb-true 2 id (q .0), ltb-true id end (q .1)))
     (λ t. h)
 
 -- 16

@@ -1,19 +1,19 @@
 -- The laws of specs/Laws. Those of a map that was read hold since its reading is that of an accepted map.
-use mathlib.Core.Path.{_≡_, sym, ap, ap₂, _∙_}
+use mathlib.Core.Path.{_≡_, refl, sym, ap, ap₂, _∙_}
 use mathlib.Core.Bool.{Bool, false, cond}
 use mathlib.Core.List.{List}
 use Prim.Native.Nat.{ℕ, suc, _+_, _-_, _*_, _%_, _<_}
 use native.Mathlib.Omega.{arith}
 use lib.Dec.{eqb}
-use borrow.Author.Tests.{ne-eqb}
+use borrow.Author.Tests.{eq-eqb, ne-eqb}
 use Rattle.geometry.specs.declared.Geometry.{Geometry}
-use Rattle.geometry.specs.Record.{geometryOf}
+use Rattle.geometry.specs.Record.{versionOf, geometryOf}
 use Rattle.model.specs.Chain.{Entry}
-use Rattle.model.specs.Answer.{answered}
+use Rattle.model.specs.Answer.{refused, answered}
 use Rattle.model.specs.Check.{mapRead}
 use Rattle.model.specs.Pieces.{piecesOfZones, objectPairs}
 use Rattle.listing.proofs.Laws.{accepted, same-zones}
-use Rattle.address.specs.Address.{idOf, startOffset, Sought, at, seek}
+use Rattle.address.specs.Address.{idOf, startOffset, Sought, at, seek, addressFound}
 use Rattle.address.specs.Laws.{AddressLaws}
 use Rattle.address.proofs.ByTable.{address-by-table}
 use Rattle.address.proofs.OwnAnswers.{answer-is-byte, one-byte, answer-on-disc}
@@ -31,6 +31,9 @@ module _ (m : List ℕ) (ess : List (List Entry)) (e : mapRead m ≡ answered es
 
   one-to-one : (id i j x : ℕ) → sought id i ≡ at x → sought id j ≡ at x → i ≡ j
   one-to-one id i j x = rw (sym (same-zones m ess e)) (object-one-to-one (accepted m ess e) id i j x)
+
+  plus-refused : versionOf m ≡ 1 → (n position : ℕ) → addressFound m n position ≡ refused 8 0
+  plus-refused v n position = rw (e, eq-eqb (g .version) 1 v) refl
 
   on-disc : (id i x : ℕ) → (id ≡ 1 → ⊥) → sought id i ≡ at x → x < g .size
   on-disc id i x = rw (sym (same-zones m ess e)) (object-on-disc (accepted m ess e) id i x)
@@ -52,6 +55,7 @@ id-of id s h = omega arith
 pub address-laws : AddressLaws
 address-laws = record {
   address-by-table = address-by-table;
+  plus-refused = plus-refused;
   whole-object = whole-object;
   part-of-object = part-of-object;
   id-of = id-of;

@@ -52,16 +52,16 @@ module _ (m : List ℕ) where
       (λ t. absurd (v .none-given .1 .1 .0 0 (refl, ltb-false i (bytesLong m (idOf n)) t))) in
       record {
         rules = v .rules;
-        not-1 = λ k. v .none-given .0 0 (refl, inl (λ r. omega (arith, r .0)));
+        not-1 = λ k. v .none-given .0 0 (refl, inr (inl (λ r. omega (arith, r .0))));
         below = b;
         value = v .value;
         sought = joined-found (g .unit) qs i b ∙ ap at (sym (v .value));
       }
 
   -- a byte that is found is answered
-  pub answers : (n position a : ℕ) → MapRules m → n < 16777216 → 2 ≤ idOf n → idOf n < g .ids * g .zones
+  pub answers : (n position a : ℕ) → MapRules m → (g .version ≡ 1 → ⊥) → n < 16777216 → 2 ≤ idOf n → idOf n < g .ids * g .zones
       → seek (g .unit) (listedOn m (idOf n)) (startOffset g n + position) ≡ at a → addressFound m n position ≡ answered a
-  answers n position a w low l h e =
+  answers n position a w v low l h e =
       let qs : List Pair = listedOn m (idOf n) in
       let i : ℕ = startOffset g n + position in
       let b : i < length (joined (g .unit) qs) = joined-ends (g .unit) qs i a e in
@@ -69,7 +69,7 @@ module _ (m : List ℕ) where
       address-by-table m n position .only (answered a)
       (by-lines _ w
       (inr (
-        (λ z p. fits n (idOf n) (g .ids * g .zones) low (l, h) (p .1)),
+        (λ z p. fits g n v low (l, h) (p .1)),
         inr (
           (λ z p. never-at i a (sym (ap (λ (x : List Pair). seek (g .unit) x i) (p .1)) ∙ e)),
           inr ((λ z p. omega (arith, p .1, length-total (g .unit) qs)), ap answered same),

@@ -1,6 +1,7 @@
--- From a file's internal number and a position to a disc address (document 01, "Address", refusals 8, 10, 16). Assumes nothing.
+-- From a file's internal number and a position to a disc address (document 01, "Address", refusals 8, 10, 16; document 02, R-12).
+-- Assumes nothing.
 use mathlib.Core.Path.{_≡_}
-use mathlib.Core.Bool.{Bool, cond, _&&_}
+use mathlib.Core.Bool.{Bool, not, cond, _&&_}
 use mathlib.Core.List.{List, [], _∷_}
 use Prim.Native.Nat.{ℕ, _+_, _-_, _*_, _/_, _%_}
 use lib.Dec.{eqb, ltb}
@@ -44,9 +45,10 @@ abbrev pub within : Sought → Answer ℕ
 within (at a) = answered a
 within (past i) = refused 16 0
 
--- 8: "id argument outside .. 2 (address) .. to P*nzones-1; n not below 2^24"
+-- 8: "id argument outside .. 2 (address) .. to P*nzones-1; n not below 2^24"; "Address refuses E+ with 8, because its internal numbers are
+-- another matter." (R-12)
 abbrev pub numberFits : Geometry → ℕ → Bool
-numberFits g n = ltb n 16777216 && idFrom 2 g (idOf n)
+numberFits g n = not (eqb (g .version) 1) && (ltb n 16777216 && idFrom 2 g (idOf n))
 
 -- 8, 10, 16, then where the byte lies
 abbrev pub addressRead : Geometry → ℕ → ℕ → List (List Entry) → Answer ℕ

@@ -4,9 +4,9 @@ use mathlib.Core.List.{List}
 use Prim.Native.Nat.{ℕ, suc, _+_, _*_, _<_}
 use lib.ListN.{length, getD}
 use Rattle.geometry.specs.declared.Geometry.{Geometry}
-use Rattle.geometry.specs.Record.{geometryOf}
+use Rattle.geometry.specs.Record.{versionOf, geometryOf}
 use Rattle.model.specs.Chain.{Pair, Entry}
-use Rattle.model.specs.Answer.{answered}
+use Rattle.model.specs.Answer.{refused, answered}
 use Rattle.model.specs.Check.{mapRead}
 use Rattle.model.specs.Pieces.{piecesOfZones, objectPairs}
 use Rattle.model.specs.Refusals.{ByTable, Exactly}
@@ -17,6 +17,10 @@ use Rattle.address.specs.Refusals.{joined, addressLines, byteAddress}
 pub record AddressLaws : Type 0 where
   -- the call answers what its lines of the table say, in its order, and nothing else: each refusal "exactly when"
   pub address-by-table : (m : List ℕ) (n position : ℕ) → Exactly (ByTable m (addressLines m n position) (byteAddress m n position)) (addressFound m n position)
+  -- "Address refuses E+ with 8, because its internal numbers are another matter" (document 02, R-12): every number, on every such map
+  -- that is accepted
+  pub plus-refused : (m : List ℕ) (ess : List (List Entry)) → mapRead m ≡ answered ess → versionOf m ≡ 1
+      → (n position : ℕ) → addressFound m n position ≡ refused 8 0
   -- "id = n div 256, low byte s. Start offset is 0 for s = 0, else (s-1)*S."
   pub whole-object : (g : Geometry) (id : ℕ) → startOffset g (id * 256) ≡ 0
   pub part-of-object : (g : Geometry) (id s : ℕ) → s < 255 → startOffset g (id * 256 + suc s) ≡ s * g .sector

@@ -1,11 +1,12 @@
 -- The lines of document 01's table for the call `address` ("Numbered refusals"), in its order, and the value: where the byte lies. The
 -- sentence of 10 stands in `model/Refusals`. They speak of the object's pairs as `list` shows them; `AddressLaws` has that the call answers them and nothing
 -- else. Assumes nothing.
+use mathlib.Core.Path.{_≡_}
 use mathlib.Core.List.{List, [], _∷_, _++_}
 use mathlib.Core.Logic.{_⊎_}
 use Prim.Native.Nat.{ℕ, zero, suc, _+_, _*_, _^_, _≤_}
 use lib.ListN.{getD}
-use Rattle.geometry.specs.Record.{geometryOf}
+use Rattle.geometry.specs.Record.{versionOf, geometryOf}
 use Rattle.model.specs.Chain.{Pair}
 use Rattle.model.specs.Shown.{listedOn}
 use Rattle.model.specs.Refusals.{Refusing, line, Outside, NotThere}
@@ -31,8 +32,8 @@ bytesLong m id = totalLength (listedOn m id) * (geometryOf m) .unit
 
 abbrev pub addressLines : List ℕ → ℕ → ℕ → List Refusing
 addressLines m n position =
-    -- "id argument outside .. 2 (address) .. to P*nzones-1; n not below 2^24"
-    line 8 (Outside 2 m (idOf n) ⊎ (2 ^ 24 ≤ n))
+    -- "Address refuses E+ with 8" (document 02, R-12); "id argument outside .. 2 (address) .. to P*nzones-1; n not below 2^24"
+    line 8 ((versionOf m ≡ 1) ⊎ (Outside 2 m (idOf n) ⊎ (2 ^ 24 ≤ n)))
     ∷ line 10 (NotThere m (idOf n))
     -- "start offset plus position not below the object's length"
     ∷ line 16 (bytesLong m (idOf n) ≤ startOffset (geometryOf m) n + position)

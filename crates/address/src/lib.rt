@@ -34,11 +34,14 @@ pub fn address(map: &[u8], n: u32, position: u64) -> Reached
     }
 }
 
-// An address on an accepted map: 8, 10, 16.
+// An address on an accepted map: 8, on E+ whatever the number; 10, 16.
 fn address_in(map: &[u8], g: Geometry, n: u32, position: u64) -> Reached
     requires { ⌜ AcceptedMap (now map) g ⌝ }
     ensures { λ r. ⌜ r ≡ addressAnswer (addressFound (now (map .entry)) n position) ⌝ }
 {
+    if g.version == 1 {
+        return Reached::Refused(refuse(8));
+    }
     if 16777216 <= n {
         return Reached::Refused(refuse(8));
     }

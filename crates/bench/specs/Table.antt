@@ -3,7 +3,7 @@ use mathlib.Core.Bool.{true, false}
 use mathlib.Core.List.{List, [], _∷_, _++_}
 use Prim.Native.Nat.{ℕ}
 use lib.ListN.{replicate}
-use Rattle.geometry.specs.Record.{geometryFrom, geometryOf, floppyDisc, eightZones, driveOf}
+use Rattle.geometry.specs.Record.{geometryFrom, geometryOf, floppyDisc, eightZones, driveOf, plusDisc}
 use Rattle.checks.specs.Maps.{withBytes, mapA, mapB, mapD}
 use Rattle.edits.specs.Judge as call
 use Rattle.bench.specs.Questions.{Question, record-read, check, list, free, address, sweepObject, sweepFree, counted, countedFree}
@@ -58,6 +58,21 @@ recordA bs = record-read (withBytes bs mapA)
 -- A with rubbish after the 32 bytes of its record, and the zone check that goes with it
 abbrev dirtyA : List ℕ
 dirtyA = withBytes ((0, 0xC4) ∷ (36, 0x01) ∷ []) mapA
+
+-- A's record as E+ (document 02, R-12), and these bytes
+abbrev plusRecord : List (ℕ × ℕ) → Question
+plusRecord bs = recordA ((48, 0x01) ∷ bs)
+
+-- with ids of 19 bits and zones of 500 map bits: this is the low byte of nzones, and these are the other bytes
+abbrev plusZones : ℕ → List (ℕ × ℕ) → Question
+plusZones low bs = plusRecord ((8, 0x13) ∷ (13, low) ∷ (14, 0x0C) ∷ (15, 0x06) ∷ bs)
+
+-- A as E+; and the same with ids of 19 bits: object 2 is (0,20), free is (20,1516)
+abbrev plusA : List ℕ
+plusA = withBytes ((0, 0xC4) ∷ (48, 0x01) ∷ []) mapA
+
+abbrev longIds : List ℕ
+longIds = withBytes ((0, 0xB4) ∷ (1, 0x0C) ∷ (8, 0x13) ∷ (48, 0x01) ∷ (65, 0x00) ∷ (66, 0x08) ∷ []) mapA
 
 -- D with two free fragments of zone 1 that touch, (1548,12) and (1560,1992)
 abbrev touchingD : List ℕ
@@ -176,7 +191,7 @@ table =
     ∷ row (start (geometryFrom (driveOf 255)) 16128) (0 ∷ 0 ∷ 128 ∷ [])
     ∷ row (start (geometryFrom (driveOf 255)) 32129) (0 ∷ 0 ∷ 254 ∷ [])
     ∷ row (start (geometryFrom (driveOf 255)) 32130) (8 ∷ 0 ∷ 0 ∷ [])
-    -- Records at the ends of their ranges: the floppy's; disc_size in whole sectors; idlen 15 and 16; 255 zones and 0 (R-4); a zone with
+    -- Records of version 0 at the ends of their ranges: the floppy's; disc_size in whole sectors; idlen 15 and 16; 255 zones and 0 (R-4); a zone with
     -- room for m bits in zone 0, and with one bit less; as many ids as their bits can name, and more.
     ∷ row (record-read floppyBytes) (0 ∷ 0 ∷ [])
     ∷ row (sizes (geometryOf floppyBytes)) (6880 ∷ 16 ∷ 430 ∷ 819200 ∷ [])
@@ -201,6 +216,48 @@ table =
     ∷ row (check (dirtyA ++ 0 ∷ [])) (2 ∷ 0 ∷ [])
     ∷ row (recordA ((8, 0x10) ∷ (36, 0x01) ∷ [])) (2 ∷ 0 ∷ [])
     ∷ row (after dirtyA (call.place 5 (12 ∷ 20 ∷ []))) dirtyA
+    -- E+ (document 02, R-12). Versions 1, 2, 256 and 2^24; ids of 16, 19 and 20 bits; the high byte of nzones, which is rubbish in version 0;
+    -- the high half of the size, block bytes 40 to 43, and what is carried around it.
+    ∷ row (plusRecord []) (0 ∷ 0 ∷ [])
+    ∷ row (recordA ((48, 0x02) ∷ [])) (2 ∷ 0 ∷ [])
+    ∷ row (recordA ((49, 0x01) ∷ [])) (2 ∷ 0 ∷ [])
+    ∷ row (plusRecord ((51, 0x01) ∷ [])) (2 ∷ 0 ∷ [])
+    ∷ row (plusRecord ((8, 0x10) ∷ [])) (0 ∷ 0 ∷ [])
+    ∷ row (plusRecord ((8, 0x13) ∷ [])) (0 ∷ 0 ∷ [])
+    ∷ row (plusRecord ((8, 0x14) ∷ [])) (2 ∷ 0 ∷ [])
+    ∷ row (plusRecord ((8, 0x13) ∷ (46, 0x01) ∷ [])) (0 ∷ 0 ∷ [])
+    ∷ row (recordA ((46, 0x01) ∷ [])) (2 ∷ 0 ∷ [])
+    ∷ row (plusRecord ((40, 0x01) ∷ [])) (2 ∷ 0 ∷ [])
+    ∷ row (plusRecord ((43, 0x80) ∷ [])) (2 ∷ 0 ∷ [])
+    ∷ row (plusRecord ((39, 0xFF) ∷ (44, 0xFF) ∷ (47, 0xFF) ∷ (52, 0xFF) ∷ (63, 0xFF) ∷ [])) (0 ∷ 0 ∷ [])
+    -- 256 zones, by the high byte alone; 20,971, the most that P*nzones leaves, and 20,972. A disc of 4,294,967,040 bytes on
+    -- a map for more than 2^32.
+    ∷ row (plusZones 0x00 ((46, 0x01) ∷ [])) (0 ∷ 0 ∷ [])
+    ∷ row (plusZones 0x00 []) (2 ∷ 0 ∷ [])
+    ∷ row (plusZones 0xEB ((46, 0x51) ∷ [])) (0 ∷ 0 ∷ [])
+    ∷ row (plusZones 0xEC ((46, 0x51) ∷ [])) (2 ∷ 0 ∷ [])
+    ∷ row (plusZones 0xEB ((46, 0x51) ∷ (21, 0xFF) ∷ (22, 0xFF) ∷ (23, 0xFF) ∷ [])) (0 ∷ 0 ∷ [])
+    -- Start zones there.
+    ∷ row (sizes (geometryFrom (plusDisc 20971))) (500 ∷ 20 ∷ 25 ∷ 1342082560 ∷ [])
+    ∷ row (start (geometryFrom (plusDisc 20971)) 2) (0 ∷ 0 ∷ 10485 ∷ [])
+    ∷ row (start (geometryFrom (plusDisc 20971)) 6400) (0 ∷ 0 ∷ 256 ∷ [])
+    ∷ row (start (geometryFrom (plusDisc 20971)) 524274) (0 ∷ 0 ∷ 20970 ∷ [])
+    ∷ row (start (geometryFrom (plusDisc 20971)) 524275) (8 ∷ 0 ∷ 0 ∷ [])
+    -- A as E+ reads as A, but no byte of a file is found on it, after 3: another zone check. It is edited as A is, and back.
+    ∷ row (check plusA) (0 ∷ 0 ∷ [])
+    ∷ row (list plusA 2 lent) (0 ∷ 0 ∷ 1 ∷ 0 ∷ 12 ∷ 9 ∷ 9 ∷ [])
+    ∷ row (free plusA lent) (0 ∷ 0 ∷ 1 ∷ 12 ∷ 1524 ∷ 9 ∷ 9 ∷ [])
+    ∷ row (address mapA 0x000200 0) (0 ∷ 0 ∷ 0 ∷ [])
+    ∷ row (address plusA 0x000200 0) (8 ∷ 0 ∷ 0 ∷ [])
+    ∷ row (address plusA 0x000500 0) (8 ∷ 0 ∷ 0 ∷ [])
+    ∷ row (address (withBytes ((0, 0xC5) ∷ []) plusA) 0x000200 0) (3 ∷ 0 ∷ 0 ∷ [])
+    ∷ row (after plusA (call.place 5 (12 ∷ 20 ∷ []))) (withBytes ((0, 0x29) ∷ (48, 0x01) ∷ []) mapB)
+    ∷ row (after (withBytes ((0, 0x29) ∷ (48, 0x01) ∷ []) mapB) (call.release 5 4)) plusA
+    -- Ids of 19 bits: a fragment has 20 bits or more, and a claim writes all of its id.
+    ∷ row (list longIds 2 lent) (0 ∷ 0 ∷ 1 ∷ 0 ∷ 20 ∷ 9 ∷ 9 ∷ [])
+    ∷ row (free longIds lent) (0 ∷ 0 ∷ 1 ∷ 20 ∷ 1516 ∷ 9 ∷ 9 ∷ [])
+    ∷ row (claim longIds 1) (0 ∷ 0 ∷ 3 ∷ 20 ∷ 20 ∷ [])
+    ∷ row (after longIds (call.claim 1)) (withBytes ((0, 0x38) ∷ (1, 0x20) ∷ (66, 0x38) ∷ (68, 0x80) ∷ []) longIds)
     -- A map that is a byte too long; object 3 where A's middle zone has to begin with 2.
     ∷ row (check (mapA ++ 0 ∷ [])) (1 ∷ 0 ∷ [])
     ∷ row (check (withBytes ((0, 0xC4) ∷ (64, 0x03) ∷ []) mapA)) (7 ∷ 0 ∷ [])

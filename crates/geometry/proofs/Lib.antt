@@ -4,3 +4,4 @@ pub mod Numbers
 pub mod DiscBits
 pub mod Starts
 pub mod RecordAnswers
+pub mod Editions

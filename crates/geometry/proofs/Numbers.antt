@@ -4,17 +4,18 @@ use mathlib.Core.Path.{_≡_, refl, sym, ap, _∙_, subst}
 use mathlib.Core.Bool.{Bool, true, _&&_}
 use mathlib.Core.List.{List}
 use Prim.Native.Nat.{ℕ, suc, _+_, _-_, _*_, _/_, _%_, _^_, _<_, _≤_}
-use native.Mathlib.Nat.{mul-mod-left, div-add-mod', mod-lt, div-le-self, le-div-iff-mul-le, div-lt-iff-lt-mul, suc-mul}
+use native.Mathlib.Nat.{mul-mod-left, div-add-mod', mod-lt, div-le-self, le-div-iff-mul-le, div-lt-iff-lt-mul, suc-mul, mul-le-mul}
 use native.Mathlib.Omega.{arith}
 use lib.Dec.{eqb, leb}
 use lib.Pow.{pow-mono, pow-add, pow-pos}
+use borrow.Author.Needs.{needs}
 use borrow.Author.Tests.{leb-true, eqb-true, lt-ltb, le-ltb}
-use Rattle.bits.proofs.Tests.{both}
+use Rattle.bits.proofs.Tests.{by-test, both}
 use Rattle.bits.proofs.Below.{below, at}
 use Rattle.geometry.specs.declared.DiscRecord.{DiscRecord}
 use Rattle.geometry.specs.declared.Geometry.{Geometry}
-use Rattle.geometry.specs.Record.{clusterOf, roundUp, recordIn, geometryFrom, geometryIn, floppyDisc, driveOf}
-use Rattle.geometry.specs.Ranges.{FieldRules, GeometryRules, ZeroBytes, RecordRules, recordFits}
+use Rattle.geometry.specs.Record.{clusterOf, roundUp, byVersion, recordIn, geometryFrom, geometryIn, floppyDisc, driveOf, plusDisc}
+use Rattle.geometry.specs.Ranges.{FieldRules, GeometryRules, mostZones, longestId, zeroFrom, zeroEnd, ZeroBytes, RecordRules, recordFits}
 use Rattle.geometry.specs.Accepted.{SmallNumbers, AcceptedGeometry}
 use Rattle.geometry.proofs.Rules.{test-gives-rules}
 
@@ -57,6 +58,10 @@ rounded x k h =
 pub rounded-whole : (x k : ℕ) → roundUp x k % k ≡ 0
 rounded-whole x k = mul-mod-left ((x + k - 1) / k) k
 
+-- what holds of both editions' numbers holds of the version's
+pub either-version : (P : ℕ → Type 0) (version : ℕ) {x e plus : ℕ} → x ≡ byVersion version e plus → P e → P plus → P x
+either-version P version i k l = subst P (sym i) (by-test (eqb version 0) (λ t. rw t k) (λ t. rw t l))
+
 -- the geometry of a record whose fields keep their rules
 module _ (r : DiscRecord) (f : FieldRules r) where
   abbrev g : Geometry
@@ -64,6 +69,12 @@ module _ (r : DiscRecord) (f : FieldRules r) where
 
   cluster : Clusters (g .cluster)
   cluster = clusters (r .logsector) (r .logunit) (f .sector-low) (f .sector-high) (f .unit-low) (f .unit-high)
+
+  pub longest : r .idlen ≤ 19
+  longest = let l : longestId (r .version) ≤ 19 = either-version (λ n. n ≤ 19) (r .version) refl (omega arith) (omega arith) in omega arith
+
+  most : r .zones ≤ 65535
+  most = let l : mostZones (r .version) ≤ 65535 = either-version (λ n. n ≤ 65535) (r .version) refl (omega arith) (omega arith) in omega arith
 
   -- S is a multiple of 4, as 2^(log2secsize - 2) * 4
   words : g .sector % 4 ≡ 0
@@ -88,12 +99,12 @@ module _ (r : DiscRecord) (f : FieldRules r) where
       let i : g .ids ≤ g .bits = div-le-self (g .bits) (r .idlen + 1) in
       record {
         sector-low = pow-pos (r .logsector);
-        idlen-high = omega arith;
+        idlen-high = longest;
         unit-high = omega arith;
-        zones-high = omega arith;
+        zones-high = omega (arith, most);
         cluster-low = k .low;
         bits-high = omega arith;
-        shortest-high = omega arith;
+        shortest-high = omega (arith, longest);
         ids-high = omega arith;
       }
 
@@ -117,7 +128,7 @@ module _ (r : DiscRecord) (f : FieldRules r) where
         let id : 12 ≤ r .idlen + 1 = omega arith in
         let z1 : 480 ≤ g .bits = omega arith in
         let z2 : g .bits ≤ 8160 = omega arith in
-        let few : 25 * (r .idlen + 1) ≤ g .bits = omega arith in
+        let few : 25 * (r .idlen + 1) ≤ g .bits = omega (arith, longest) in
         let many : g .bits < 681 * (r .idlen + 1) = omega arith in
         let pos : 0 < r .idlen + 1 = omega arith in
         let i1 : 25 ≤ g .ids = le-div-iff-mul-le pos .1 few in
@@ -127,11 +138,11 @@ module _ (r : DiscRecord) (f : FieldRules r) where
           sector-high = s2;
           sector-words = words;
           idlen-low = omega arith;
-          idlen-high = omega arith;
+          idlen-high = longest;
           unit-low = b1;
           unit-high = b2;
           zones-low = f .zones-low;
-          zones-high = omega arith;
+          zones-high = omega (arith, most);
           cluster-low = k .low;
           cluster-high = k .high;
           bits-low = t .room-in-zone-0;
@@ -169,40 +180,32 @@ floppy = (refl, refl, refl, refl)
 pub divisor : let g = geometryFrom (floppyDisc 13) in (g .bits ≡ 6880) × (g .shortest ≡ 16) × (g .ids ≡ 491)
 divisor = (refl, refl, refl)
 
--- "drives with 256-byte sectors and up to 255 zones"
-module _ (n : ℕ) (low : 1 ≤ n) (high : n ≤ 255) where
-  drive-fields : FieldRules (driveOf n)
-  drive-fields =
-      record {
-        sector-low = omega arith;
-        sector-high = omega arith;
-        idlen-low = omega arith;
-        idlen-high = omega arith;
-        unit-low = omega arith;
-        unit-high = omega arith;
-        zones-low = low;
-        zones-high = high;
-        spare-low = omega arith;
-      }
-
-  drive-together : GeometryRules (geometryFrom (driveOf n))
-  drive-together =
-      record {
-        whole-clusters = refl;
-        room-in-zone-0 = omega arith;
-        enough-ids = omega arith;
-        some-bytes = omega arith;
-        whole-sectors = omega arith;
-        within-map = omega arith;
-      }
-
-pub drives : (r : List ℕ) (n : ℕ) → 1 ≤ n → n ≤ 255 → recordIn r ≡ driveOf n → ZeroBytes 32 60 r → RecordRules r
-drives r n low high e zero =
+-- a record with these fields keeps the rules where they do
+keeps : (r : List ℕ) (d : DiscRecord) → recordIn r ≡ d → FieldRules d → GeometryRules (geometryFrom d) → ZeroBytes (zeroFrom (d .version)) (zeroEnd (d .version)) r
+    → RecordRules r
+keeps r d e f t zero =
     record {
-      fields = subst FieldRules (sym e) (drive-fields n low high);
-      together = subst (λ d. GeometryRules (geometryFrom d)) (sym e) (drive-together n low high);
-      reserved = zero;
+      fields = subst FieldRules (sym e) f;
+      together = subst (λ (x : DiscRecord). GeometryRules (geometryFrom x)) (sym e) t;
+      reserved = subst (λ (x : DiscRecord). ZeroBytes (zeroFrom (x .version)) (zeroEnd (x .version)) r) (sym e) zero;
     }
+
+-- "drives with 256-byte sectors and up to 255 zones"
+pub drives : (r : List ℕ) (n : ℕ) → 1 ≤ n → n ≤ 255 → recordIn r ≡ driveOf n → ZeroBytes 32 60 r → RecordRules r
+drives r n low high e zero = keeps r (driveOf n) e (search needs) (search needs) zero
+
+-- E+ discs of 1 to 20,971 zones, and no more
+pub plus-discs : (r : List ℕ) (n : ℕ) → 1 ≤ n → n ≤ 20971 → recordIn r ≡ plusDisc n → ZeroBytes 36 40 r → RecordRules r
+plus-discs r n low high e zero = keeps r (plusDisc n) e (search needs) (search needs) zero
+
+pub most-zones : (r : List ℕ) → RecordRules r → (recordIn r) .zones ≤ 20971
+most-zones r k =
+    let a = accepted r k in
+    let g : Geometry = geometryIn r in
+    let p : 2 ^ g .idlen ≤ 2 ^ 19 = pow-mono (a .idlen-high) in
+    let same : g .zones ≤ g .zones = omega arith in
+    let l : 25 * g .zones ≤ g .ids * g .zones = mul-le-mul (a .ids-low) same in
+    omega (arith, p, l, a .ids-fit)
 
 -- clusters
 pub cluster-parts : (S B : ℕ) → 0 < B → B < S → S % B ≡ 0 → clusterOf S B * B ≡ S

@@ -3,23 +3,20 @@ use mathlib.Core.Path.{_≡_, refl, sym, ap, _∙_, subst}
 use mathlib.Core.Bool.{Bool, true, false, cond, _&&_}
 use mathlib.Core.List.{List}
 use mathlib.Core.Logic.{_⊎_, inl, inr}
-use Prim.Native.Nat.{ℕ, _+_, _-_, _<_, _≤_}
+use Prim.Native.Nat.{ℕ, _<_, _≤_}
 use native.Mathlib.Omega.{arith}
 use lib.Dec.{ltb}
-use lib.ListN.{length, getD, drop}
-use lib.Seq.{getD-take, getD-drop}
+use lib.ListN.{length}
 use borrow.Author.Tests.{ltb-true, ltb-false, lt-ltb, le-ltb}
-use Rattle.bits.proofs.Tests.{by-test}
 use Rattle.geometry.specs.declared.DiscRecord.{DiscRecord}
 use Rattle.geometry.specs.declared.Geometry.{Geometry}
 use Rattle.geometry.specs.declared.Refusal.{Refusal}
 use Rattle.geometry.specs.declared.RecordRead.{RecordRead}
 use Rattle.geometry.specs.declared.RecordRead.the-variants as read
-use Rattle.geometry.specs.Record.{discRecord, byteAt, recordIn, geometryFrom, geometryOf}
-use Rattle.geometry.specs.Ranges.{fieldsFit, geometryFits, zeroBytes, recordFits}
+use Rattle.geometry.specs.Record.{discRecord, recordIn, geometryFrom, geometryOf}
+use Rattle.geometry.specs.Ranges.{zeroFrom, zeroEnd, fieldsFit, geometryFits, zeroBytes, recordFits}
 use Rattle.geometry.specs.Accepted.{AcceptedGeometry}
 use Rattle.geometry.specs.Answers.{refusal, byFit, byLength, recordOf, recordNumbers, recordTold, ReadsRecord}
-use Rattle.geometry.proofs.Rules.{test-gives-rules}
 use Rattle.geometry.proofs.Numbers.{test-gives-accepted}
 
 -- from the tests to the answer
@@ -28,19 +25,19 @@ read-short m h = rw (lt-ltb (length m) 64 h)
 
 -- the record that was read is the map's, so its tests are the map's
 module _ (m : List ℕ) (long : 64 ≤ length m) {r : DiscRecord} (e : r ≡ recordIn (discRecord m)) where
-  abbrev clean : Bool
-  clean = zeroBytes 32 60 (discRecord m)
+  abbrev clean : DiscRecord → Bool
+  clean x = zeroBytes (zeroFrom (x .version)) (zeroEnd (x .version)) (discRecord m)
 
-  read-long : byFit (fieldsFit r && (geometryFits (geometryFrom r) && clean)) (geometryFrom r) ≡ recordOf m
+  read-long : byFit (fieldsFit r && (geometryFits (geometryFrom r) && clean r)) (geometryFrom r) ≡ recordOf m
   read-long =
-      ap (λ (x : DiscRecord). byFit (fieldsFit x && (geometryFits (geometryFrom x) && clean)) (geometryFrom x)) e
+      ap (λ (x : DiscRecord). byFit (fieldsFit x && (geometryFits (geometryFrom x) && clean x)) (geometryFrom x)) e
       ∙ rw (le-ltb (length m) 64 long)
 
   pub read-outside : fieldsFit r ≡ false → read.Refused (refusal 2 0) ≡ recordOf m
   read-outside t = rw t at read-long
 
-  pub read-geometry : fieldsFit r ≡ true → {g : Geometry} → g ≡ geometryFrom r → {b : Bool} → b ≡ geometryFits g && clean → byFit b g ≡ recordOf m
-  read-geometry f {g} h t = ap (λ (x : Bool). byFit x g) t ∙ ap (λ (x : Geometry). byFit (geometryFits x && clean) x) h ∙ (rw f at read-long)
+  pub read-geometry : fieldsFit r ≡ true → {g : Geometry} → g ≡ geometryFrom r → {b : Bool} → b ≡ geometryFits g && clean r → byFit b g ≡ recordOf m
+  read-geometry f {g} h t = ap (λ (x : Bool). byFit x g) t ∙ ap (λ (x : Geometry). byFit (geometryFits x && clean r) x) h ∙ (rw f at read-long)
 
 -- the answer's numbers are the table's
 pub reads-record : (m : List ℕ) {r : RecordRead} → r ≡ recordOf m → ReadsRecord m r
@@ -52,15 +49,16 @@ reads-record m e = record { answer = e; numbers = ap recordNumbers e ∙ told (l
     told false false = refl
 
 -- from the answer to the tests
+pub accepted-by : (short fits : Bool) (g h : Geometry) → byLength short (byFit fits h) ≡ read.Accepted g → (short ≡ false) × (fits ≡ true) × (g ≡ h)
+accepted-by true fits g h e = let x : _≡_ {A = ℕ} 0 1 = cc in absurd (omega arith)
+accepted-by false true g h e = (refl, refl, cc)
+accepted-by false false g h e = let x : _≡_ {A = ℕ} 0 1 = cc in absurd (omega arith)
+
 module _ (m : List ℕ) where
   pub accepted-says : (g : Geometry) → recordOf m ≡ read.Accepted g → (64 ≤ length m) × (recordFits (discRecord m) ≡ true) × (g ≡ geometryOf m)
-  accepted-says g = go (ltb (length m) 64) (recordFits (discRecord m)) (geometryOf m) refl
-    where
-      go : (short fits : Bool) (h : Geometry) → ltb (length m) 64 ≡ short → byLength short (byFit fits h) ≡ read.Accepted g
-          → (64 ≤ length m) × (fits ≡ true) × (g ≡ h)
-      go true fits h l e = let x : _≡_ {A = ℕ} 0 1 = cc in absurd (omega arith)
-      go false true h l e = (ltb-false (length m) 64 l, refl, cc)
-      go false false h l e = let x : _≡_ {A = ℕ} 0 1 = cc in absurd (omega arith)
+  accepted-says g e =
+      let a = accepted-by (ltb (length m) 64) (recordFits (discRecord m)) g (geometryOf m) e in
+      (ltb-false (length m) 64 (a .0), a .1, a .2)
 
   pub refused-says : (r : Refusal) → recordOf m ≡ read.Refused r
       → ((r ≡ refusal 1 0) × (length m < 64)) ⊎ ((r ≡ refusal 2 0) × (64 ≤ length m) × (recordFits (discRecord m) ≡ false))
@@ -76,13 +74,3 @@ module _ (m : List ℕ) where
   accepted-geometry g e =
       let a = accepted-says g e in
       subst (λ (x : Geometry). AcceptedGeometry x) (sym (a .2)) (test-gives-accepted (discRecord m) (a .1))
-
--- a reserved byte that is not 0 breaks the last rule
-pub dirty : (m : List ℕ) → 64 ≤ length m → (b : ℕ) → 36 ≤ b → b < 64 → (getD m b 0 ≡ 0 → ⊥) → recordTold m ≡ (2, 0)
-dirty m long b low high rubbish =
-    let r = discRecord m in
-    let i : 4 + (b - 4) ≡ b = omega arith in
-    let at : byteAt r (b - 4) ≡ getD m b 0 = getD-take 60 (drop 4 m) (b - 4) 0 (omega arith) ∙ getD-drop 4 m (b - 4) 0 ∙ ap (λ (j : ℕ). getD m j 0) i in
-    by-test (recordFits r)
-    (λ t. absurd (rubbish (sym at ∙ test-gives-rules r t .reserved (b - 4) (omega arith) (omega arith))))
-    (λ t. rw (le-ltb (length m) 64 long, t) refl)

@@ -10,8 +10,9 @@ use borrow.Author.Tests.{leb-true, ltb-true, eqb-true, le-leb, lt-ltb, eq-eqb}
 use Rattle.bits.proofs.Tests.{both}
 use Rattle.geometry.specs.declared.DiscRecord.{DiscRecord}
 use Rattle.geometry.specs.declared.Geometry.{Geometry}
-use Rattle.geometry.specs.Record.{recordIn, geometryIn}
-use Rattle.geometry.specs.Ranges.{FieldRules, GeometryRules, RecordRules, mostZones, longestId, between, fieldsFit, geometryFits, zeroBytes, recordFits}
+use Rattle.geometry.specs.Record.{versionIn, recordIn, geometryIn}
+use Rattle.geometry.specs.Ranges.{FieldRules, GeometryRules, RecordRules, mostZones, longestId, zeroFrom, zeroEnd}
+use Rattle.geometry.specs.Ranges.{between, fieldsFit, geometryFits, zeroBytes, recordFits}
 use Rattle.geometry.proofs.ZeroBytes.{test-gives-zero, zero-gives-test}
 
 between-gives : (a x b : ℕ) → between a x b ≡ true → (a ≤ x) × (x ≤ b)
@@ -21,15 +22,17 @@ between-gives a x b t = let p = both (leb a x) (leb x b) t in (leb-true a x (p .
 module _ (r : DiscRecord) where
   pub test-gives-fields : fieldsFit r ≡ true → FieldRules r
   test-gives-fields t =
-      let p1 = both (between 8 (r .logsector) 10) _ t in
-      let p2 = both (between (r .logsector + 3) (r .idlen) longestId) _ (p1 .1) in
+      let p0 = both (leb (r .version) 1) _ t in
+      let p1 = both (between 8 (r .logsector) 10) _ (p0 .1) in
+      let p2 = both (between (r .logsector + 3) (r .idlen) (longestId (r .version))) _ (p1 .1) in
       let p3 = both (between 7 (r .logunit) 12) _ (p2 .1) in
-      let p4 = both (between 1 (r .zones) mostZones) (leb 32 (r .spare)) (p3 .1) in
+      let p4 = both (between 1 (r .zones) (mostZones (r .version))) (leb 32 (r .spare)) (p3 .1) in
       let sector = between-gives 8 (r .logsector) 10 (p1 .0) in
-      let id = between-gives (r .logsector + 3) (r .idlen) longestId (p2 .0) in
+      let id = between-gives (r .logsector + 3) (r .idlen) (longestId (r .version)) (p2 .0) in
       let unit = between-gives 7 (r .logunit) 12 (p3 .0) in
-      let count = between-gives 1 (r .zones) mostZones (p4 .0) in
+      let count = between-gives 1 (r .zones) (mostZones (r .version)) (p4 .0) in
       record {
+        version-high = leb-true (r .version) 1 (p0 .0);
         sector-low = sector .0;
         sector-high = sector .1;
         idlen-low = id .0;
@@ -44,6 +47,7 @@ module _ (r : DiscRecord) where
   fields-give-test : FieldRules r → fieldsFit r ≡ true
   fields-give-test f =
       rw (
+        le-leb _ _ (f .version-high),
         le-leb _ _ (f .sector-low),
         le-leb _ _ (f .sector-high),
         le-leb _ _ (f .idlen-low),
@@ -89,19 +93,25 @@ module _ (g : Geometry) where
 
 -- a record
 module _ (r : List ℕ) where
+  abbrev from : ℕ
+  from = zeroFrom (versionIn r)
+
+  abbrev end : ℕ
+  end = zeroEnd (versionIn r)
+
   pub test-gives-rules : recordFits r ≡ true → RecordRules r
   test-gives-rules t =
       let p = both (fieldsFit (recordIn r)) _ t in
-      let q = both (geometryFits (geometryIn r)) (zeroBytes 32 60 r) (p .1) in
+      let q = both (geometryFits (geometryIn r)) (zeroBytes from end r) (p .1) in
       record {
         fields = test-gives-fields (recordIn r) (p .0);
         together = test-gives-together (geometryIn r) (q .0);
-        reserved = test-gives-zero 32 60 r (q .1);
+        reserved = test-gives-zero from end r (q .1);
       }
 
   pub rules-give-test : RecordRules r → recordFits r ≡ true
   rules-give-test k =
-      rw (fields-give-test (recordIn r) (k .fields), together-gives-test (geometryIn r) (k .together), zero-gives-test 32 60 r (k .reserved))
+      rw (fields-give-test (recordIn r) (k .fields), together-gives-test (geometryIn r) (k .together), zero-gives-test from end r (k .reserved))
 
 pub test-is-rules : (r : List ℕ) → (recordFits r ≡ true → RecordRules r) × (RecordRules r → recordFits r ≡ true)
 test-is-rules r = (test-gives-rules r, rules-give-test r)

@@ -2,14 +2,16 @@
 use mathlib.Core.Path.{_≡_}
 use mathlib.Core.Bool.{true}
 use mathlib.Core.List.{List}
-use Prim.Native.Nat.{ℕ, suc, _*_, _/_, _%_, _<_, _≤_}
+use Prim.Native.Nat.{ℕ, suc, _+_, _*_, _/_, _%_, _<_, _≤_}
 use lib.ListN.{length, getD}
 use Rattle.geometry.specs.declared.Geometry.{Geometry}
-use Rattle.geometry.specs.Record.{recordIn, clusterOf, geometryIn, geometryFrom, floppyDisc, eightZones, driveOf}
+use Rattle.geometry.specs.declared.RecordRead.the-variants as read
+use Rattle.geometry.specs.Record.{recordIn, clusterOf, versionOf, geometryIn, geometryFrom, geometryOf, floppyDisc, eightZones, driveOf, plusDisc}
 use Rattle.geometry.specs.Ranges.{ZeroBytes, RecordRules, recordFits}
 use Rattle.geometry.specs.Accepted.{AcceptedGeometry}
 use Rattle.geometry.specs.Places.{firstBit, endBit, discBit, blockBit, zoneOf, zoneFrom, zoneEnd, discBits, startZone}
-use Rattle.geometry.specs.Answers.{recordTold, startOf, startNumbers}
+use Rattle.geometry.specs.Answers.{recordOf, recordTold, startOf, startNumbers}
+use Rattle.geometry.specs.Version0.{recordOf0}
 
 pub record GeometryLaws : Type 0 where
   -- the test accepts a record exactly when it keeps the rules
@@ -41,5 +43,22 @@ pub record GeometryLaws : Type 0 where
   -- "drives with 256-byte sectors and up to 255 zones" (document 02, R-4): the rules hold for every number of zones, whatever
   -- the carried bytes are
   pub drives : (r : List ℕ) (n : ℕ) → 1 ≤ n → n ≤ 255 → recordIn r ≡ driveOf n → ZeroBytes 32 60 r → RecordRules r
-  -- "A map with any of block bytes 36 to 63 of zone 0 not 0 is refused with 2" (document 02, R-7), whatever its other bytes
-  pub dirty : (m : List ℕ) → 64 ≤ length m → (b : ℕ) → 36 ≤ b → b < 64 → (getD m b 0 ≡ 0 → ⊥) → recordTold m ≡ (2, 0)
+  -- "A map with any of block bytes 36 to 63 of zone 0 not 0 is refused with 2" (document 02, R-7), "for version 0 only" (R-12), whatever
+  -- its other bytes
+  pub dirty : (m : List ℕ) → 64 ≤ length m → versionOf m ≡ 0 → (b : ℕ) → 36 ≤ b → b < 64 → (getD m b 0 ≡ 0 → ⊥) → recordTold m ≡ (2, 0)
+  -- "The later record has a high byte for nzones at record offset 42, a format version of 4 bytes at 44" (R-12), here in the bytes
+  -- of a map
+  pub version-at : (m : List ℕ) → versionOf m ≡ getD m 48 0 + 256 * getD m 49 0 + 65536 * (getD m 50 0 + 256 * getD m 51 0)
+  pub zones-at : (m : List ℕ) → let n = (geometryOf m) .zones in
+      (versionOf m ≡ 0 → n ≡ getD m 13 0) × (versionOf m ≡ 1 → n ≡ getD m 13 0 + 256 * getD m 46 0)
+  -- "Take version 1 as E+ and 0 as what we have; others are refused with 2." A map of version 0 reads as before, and what was accepted
+  -- before is of version 0
+  pub version-0 : (m : List ℕ) → versionOf m ≡ 0 → recordOf m ≡ recordOf0 m
+  pub accepted-0 : (m : List ℕ) (g : Geometry) → recordOf0 m ≡ read.Accepted g → versionOf m ≡ 0
+  pub other-version : (m : List ℕ) → 64 ≤ length m → 1 < versionOf m → recordTold m ≡ (2, 0)
+  -- "For E+ nzones may be 1 to 65,535 under the same P*nzones rule": that rule leaves 20,971, and the rules hold for every number up to
+  -- there with ids of 19 bits, whatever the carried bytes are
+  pub most-zones : (r : List ℕ) → RecordRules r → (recordIn r) .zones ≤ 20971
+  pub plus-discs : (r : List ℕ) (n : ℕ) → 1 ≤ n → n ≤ 20971 → recordIn r ≡ plusDisc n → ZeroBytes 36 40 r → RecordRules r
+  -- "and record bytes 36 to 39, the high half of the size, must be 0 (else 2)": block bytes 40 to 43, in version 0 by R-7
+  pub high-size : (m : List ℕ) → 64 ≤ length m → (b : ℕ) → 40 ≤ b → b < 44 → (getD m b 0 ≡ 0 → ⊥) → recordTold m ≡ (2, 0)

@@ -7,7 +7,7 @@ use bits::zero_run;
 ghost use mathlib.Core.Path.{_≡_};
 ghost use Prim.Native.Nat.{_+_, _-_, _*_, _/_, _%_, _^_, _<_, _≤_};
 ghost use lib.ListN.{length};
-ghost use Rattle.geometry.specs.Record.{clusterOf, twoBytes, recordIn, geometryFrom};
+ghost use Rattle.geometry.specs.Record.{clusterOf, twoBytes, fourBytes, byVersion, recordIn, geometryFrom};
 ghost use Rattle.geometry.specs.Ranges.{FieldRules, between, fieldsFit, geometryFits, zeroBytes};
 ghost use Rattle.geometry.specs.Accepted.{SmallNumbers, AcceptedGeometry};
 ghost use Rattle.geometry.specs.Places.{firstBit, endBit, discBit, blockBit, zoneOf, zoneFrom, discBits, idFrom};
@@ -22,6 +22,7 @@ pub struct DiscRecord {
     pub zones: usize, // nzones
     pub spare: usize, // zone_spare
     pub size: usize, // disc_size
+    pub version: usize, // the format version
 }
 
 // What a disc record fixes, by document 01's letters.
@@ -36,6 +37,7 @@ pub struct Geometry {
     pub ids: usize, // P, the ids per zone
     pub size: usize, // disc_size in bytes
     pub end: DiscBit, // disc_size div B, where the disc ends
+    pub version: usize, // the edition: 0 for E, 1 for E+
 }
 
 // A numbered refusal of document 01's table, with the zone told.
@@ -62,11 +64,6 @@ pub struct BlockBit(pub usize);
 
 pub struct DiscBit(pub u32);
 
-// The most zones and the longest id that are accepted.
-const MOST_ZONES: usize = 255;
-
-const LONGEST_ID: usize = 15;
-
 // The geometry that a map's record gives. Refused: 1 where the map is under 64 bytes, 2 where the record is outside its
 // ranges or its reserved bytes are not 0.
 pub fn read_record(map: &[u8]) -> RecordRead
@@ -81,7 +78,9 @@ pub fn read_record(map: &[u8]) -> RecordRead
         return RecordRead::Refused(refuse(2));
     }
     let g = geometry_from(r);
-    if !both(geometry_fits(g), zero_bytes(bytes, 32, 60)) {
+    let from = by_version(r.version, 32, 36);
+    let end = by_version(r.version, 60, 40);
+    if !both(geometry_fits(g), zero_bytes(bytes, from, end)) {
         return RecordRead::Refused(refuse(2));
     }
     RecordRead::Accepted(g)
@@ -210,14 +209,32 @@ fn record_in(r: &[u8]) -> DiscRecord
     requires { ⌜ length (now r) ≡ 60 ⌝ }
     ensures { λ d. ⌜ (d ≡ recordIn (now (r .entry))) × (d .logsector < 256) × (d .size < 4294967296) ⌝ }
 {
+    let version = four_bytes(r, 44);
+    let zones = wide(r[9]);
     DiscRecord {
         logsector: wide(r[0]),
         idlen: wide(r[4]),
         logunit: wide(r[5]),
-        zones: wide(r[9]),
+        zones: by_version(version, zones, zones + 256 * wide(r[42])),
         spare: two_bytes(r, 10),
-        size: two_bytes(r, 16) + 65536 * two_bytes(r, 18),
+        size: four_bytes(r, 16),
+        version,
     }
+}
+
+// What a number is in version 0, and what in the later one.
+fn by_version(version: usize, e: usize, plus: usize) -> usize
+    ensures { λ n. ⌜ n ≡ byVersion version e plus ⌝ }
+{
+    if version == 0 { e } else { plus }
+}
+
+// The number of four bytes, least significant first.
+fn four_bytes(r: &[u8], at: usize) -> usize
+    requires { ⌜ at + 3 < length (now r) ⌝ }
+    ensures { λ n. ⌜ (n ≡ fourBytes (now (r .entry)) at) × (n < 4294967296) ⌝ }
+{
+    two_bytes(r, at) + 65536 * two_bytes(r, at + 2)
 }
 
 // The number of two bytes, least significant first.
@@ -239,16 +256,19 @@ fn fields_fit(r: DiscRecord) -> bool
     requires { ⌜ r .logsector < 256 ⌝ }
     ensures { λ b. ⌜ b ≡ fieldsFit r ⌝ }
 {
+    let longest = by_version(r.version, 15, 19);
+    let most = by_version(r.version, 255, 65535);
     let sector = within(8, r.logsector, 10);
-    let id = within(r.logsector + 3, r.idlen, LONGEST_ID);
+    let id = within(r.logsector + 3, r.idlen, longest);
     let unit = within(7, r.logunit, 12);
-    let zones = within(1, r.zones, MOST_ZONES);
-    both(sector, both(id, both(unit, both(zones, 32 <= r.spare))))
+    let zones = within(1, r.zones, most);
+    let fields = both(sector, both(id, both(unit, both(zones, 32 <= r.spare))));
+    both(r.version <= 1, fields)
 }
 
 // The numbers that the fields fix. A zone_spare above 8S leaves no bits.
 fn geometry_from(r: DiscRecord) -> Geometry
-    requires { ⌜ FieldRules r × (r .size < 4294967296) ⌝ }
+    requires { ⌜ FieldRules r × (r .idlen ≤ 19) × (r .size < 4294967296) ⌝ }
     ensures { λ g. ⌜ g ≡ geometryFrom r ⌝ }
 {
     let sector = power(r.logsector);
@@ -266,6 +286,7 @@ fn geometry_from(r: DiscRecord) -> Geometry
         ids: bits / (r.idlen + 1),
         size: r.size,
         end: DiscBit((r.size / unit) as u32),
+        version: r.version,
     }
 }
 

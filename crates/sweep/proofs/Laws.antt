@@ -16,7 +16,7 @@ use Rattle.address.proofs.Laws.{sought}
 use Rattle.sweep.specs.Sweep.{covers, objectSpans}
 use Rattle.sweep.specs.Laws.{SweepLaws}
 use Rattle.sweep.proofs.ByTable.{sweep-by-table, free-sweep-by-table}
-use Rattle.sweep.proofs.OwnAnswers.{sweep-reaches, reached-swept, free-sweep-spans, free-sweep-misses}
+use Rattle.sweep.proofs.OwnAnswers.{sweep-lists, listed-swept, sweep-reaches, reached-swept, free-sweep-spans, free-sweep-misses}
 use Rattle.sweep.proofs.SweptOn.{swept-length}
 use Rattle.sweep.proofs.SweptLaws.{swept-byte, cut-bytes, cut-count}
 use Rattle.sweep.proofs.SweptReached.{object-reached, object-covered, object-not-free}
@@ -38,7 +38,9 @@ pub sweep-laws : SweepLaws
 sweep-laws = record {
   sweep-by-table = sweep-by-table;
   free-sweep-by-table = free-sweep-by-table;
-  sweep-reaches = sweep-reaches;
+  sweep-lists = sweep-lists;
+  listed-swept = listed-swept;
+  sweep-reaches = λ m v id first n c e. sweep-reaches m id first n c e v;
   reached-swept = reached-swept;
   free-sweep-spans = free-sweep-spans;
   free-sweep-misses = free-sweep-misses;

@@ -1,6 +1,6 @@
 -- The laws of the sweeps' own answers: an answer is the class that the map shows (`ByTable`), and an object's class covers the addresses
 -- of its bytes, which are those that `address` answers.
-use mathlib.Core.Path.{_≡_, refl, sym, ap, _∙_}
+use mathlib.Core.Path.{_≡_, refl, sym, ap, _∙_, subst}
 use mathlib.Core.Bool.{true, false}
 use mathlib.Core.List.{List}
 use Prim.Native.Nat.{ℕ, _+_, _*_, _%_, _^_, _<_, _≤_}
@@ -10,17 +10,19 @@ use lib.Pow.{pow-mono}
 use borrow.Author.Tests.{leb-true, leb-false, ltb-true, ltb-false, eq-eqb}
 use Rattle.bits.proofs.Tests.{by-test}
 use Rattle.geometry.specs.declared.Geometry.{Geometry}
-use Rattle.geometry.specs.Record.{geometryOf}
+use Rattle.geometry.specs.Record.{versionOf, geometryOf}
+use Rattle.geometry.specs.Ranges.{longestId}
 use Rattle.model.specs.Answer.{answered}
 use Rattle.model.specs.Chain.{Pair}
 use Rattle.model.specs.Rules.{MapRules}
 use Rattle.model.specs.Shown.{listedOn}
 use Rattle.model.proofs.LinesJudged.{table-answered}
-use Rattle.listing.specs.Listed.{freeFound}
-use Rattle.listing.proofs.OwnAnswers.{shown, free-shows}
-use Rattle.address.specs.Address.{idOf, startOffset, seek, addressFound}
+use Rattle.listing.specs.Listed.{objectFound, freeFound}
+use Rattle.listing.proofs.OwnAnswers.{shown, list-shows, free-shows}
+use Rattle.address.specs.Address.{idOf, startOffset, at, seek, addressFound}
 use Rattle.address.proofs.OwnAnswers.{found, answers}
 use Rattle.sweep.specs.Sweep.{Class, covers, objectSweep, freeSweep}
+use Rattle.sweep.specs.Refusals.{objectClassOn}
 use Rattle.sweep.proofs.ByTable.{sweep-by-table, free-sweep-by-table}
 use Rattle.sweep.proofs.SweptReached.{object-reached, object-covered, object-not-free}
 
@@ -31,10 +33,11 @@ inside low id end n =
     (λ t. by-test (ltb id end) (λ u. (leb-true low id t, ltb-true id end u)) (λ u. absurd (n (λ k. omega (arith, k .1, ltb-false id end u)))))
     (λ t. absurd (n (λ k. omega (arith, k .0, leb-false low id t))))
 
--- an object's number with low byte 0 is an internal number: its id has at most 15 bits
-number-low : (m : List ℕ) → MapRules m → (id : ℕ) → id < (geometryOf m) .ids * (geometryOf m) .zones → id * 256 < 16777216
-number-low m w id h =
-    let p : 2 ^ (geometryOf m) .idlen ≤ 2 ^ 15 = pow-mono {i = (geometryOf m) .idlen} {j = 15} (w .record-rules .fields .idlen-high) in
+-- in version 0 an object's number with low byte 0 is an internal number: its id has at most 15 bits
+number-low : (m : List ℕ) → MapRules m → versionOf m ≡ 0 → (id : ℕ) → id < (geometryOf m) .ids * (geometryOf m) .zones → id * 256 < 16777216
+number-low m w v id h =
+    let l : (geometryOf m) .idlen ≤ 15 = subst (λ (x : ℕ). (geometryOf m) .idlen ≤ longestId x) v (w .record-rules .fields .idlen-high) in
+    let p : 2 ^ (geometryOf m) .idlen ≤ 2 ^ 15 = pow-mono {i = (geometryOf m) .idlen} {j = 15} l in
     omega (arith, w .record-rules .together .enough-ids)
 
 -- and byte i of its file is byte i of the object
@@ -47,21 +50,44 @@ file-byte m id i =
     λ t. seek ((geometryOf m) .unit) (listedOn m (e t)) (o t)
 
 module _ (m : List ℕ) (id first n : ℕ) (c : Class) (e : objectSweep m id first n ≡ answered c) where
-  pub sweep-reaches : (a : ℕ) → covers (c .unit) (c .pairs) a ≡ true → (i : ℕ) × (addressFound m (id * 256) i ≡ answered a)
-  sweep-reaches a h =
-      let v = table-answered (sweep-by-table m id first n) e in
-      let k = inside 3 id ((geometryOf m) .ids * (geometryOf m) .zones) (λ o. v .none-given .0 0 (refl, o)) in
-      let r = object-reached (shown m (v .rules)) id a (sym (ap (λ (x : Class). covers (x .unit) (x .pairs) a) (v .value)) ∙ h) in
+  abbrev g : Geometry
+  g = geometryOf m
+
+  -- what is covered are the bytes of the pieces that the map shows
+  class-is : c ≡ objectClassOn m id
+  class-is = table-answered (sweep-by-table m id first n) e .value
+
+  rules : MapRules m
+  rules = table-answered (sweep-by-table m id first n) e .rules
+
+  covered-shown : (a : ℕ) → covers (c .unit) (c .pairs) a ≡ true → (i : ℕ) × (seek (g .unit) (listedOn m id) i ≡ at a)
+  covered-shown a h = object-reached (shown m rules) id a (sym (ap (λ (x : Class). covers (x .unit) (x .pairs) a) class-is) ∙ h)
+
+  shown-covered : (i a : ℕ) → seek (g .unit) (listedOn m id) i ≡ at a → covers (c .unit) (c .pairs) a ≡ true
+  shown-covered i a s = ap (λ (x : Class). covers (x .unit) (x .pairs) a) class-is ∙ object-covered (shown m rules) id i a s
+
+  -- and so those that `list` answers
+  module _ (room : ℕ) (qs : List Pair) (l : objectFound m id room ≡ answered qs) where
+    same : (i : ℕ) → seek (g .unit) qs i ≡ seek (g .unit) (listedOn m id) i
+    same i = ap (λ (x : List Pair). seek (g .unit) x i) (list-shows m id room qs l)
+
+    pub sweep-lists : (a : ℕ) → covers (c .unit) (c .pairs) a ≡ true → (i : ℕ) × (seek (g .unit) qs i ≡ at a)
+    sweep-lists a h = let r = covered-shown a h in (r .0, same (r .0) ∙ r .1)
+
+    pub listed-swept : (i a : ℕ) → seek (g .unit) qs i ≡ at a → covers (c .unit) (c .pairs) a ≡ true
+    listed-swept i a s = shown-covered i a (sym (same i) ∙ s)
+
+  pub sweep-reaches : versionOf m ≡ 0 → (a : ℕ) → covers (c .unit) (c .pairs) a ≡ true → (i : ℕ) × (addressFound m (id * 256) i ≡ answered a)
+  sweep-reaches v a h =
+      let k = inside 3 id (g .ids * g .zones) (λ o. table-answered (sweep-by-table m id first n) e .none-given .0 0 (refl, o)) in
+      let r = covered-shown a h in
       let d : idOf (id * 256) ≡ id = omega arith in
-      (r .0, answers m (id * 256) (r .0) a (v .rules) (number-low m (v .rules) id (k .1)) (omega (arith, k .0)) (omega (arith, k .1)) (file-byte m id (r .0) ∙ r .1))
+      let old : g .version ≡ 1 → ⊥ = λ p. omega arith in
+      (r .0, answers m (id * 256) (r .0) a rules old (number-low m rules v id (k .1)) (omega (arith, k .0)) (omega (arith, k .1)) (file-byte m id (r .0) ∙ r .1))
 
   pub reached-swept : (k i a : ℕ) → idOf k ≡ id → addressFound m k i ≡ answered a → covers (c .unit) (c .pairs) a ≡ true
   reached-swept k i a o f =
-      let v = table-answered (sweep-by-table m id first n) e in
-      let g : Geometry = geometryOf m in
-      let s = found m k i a f in
-      ap (λ (x : Class). covers (x .unit) (x .pairs) a) (v .value)
-      ∙ object-covered (shown m (v .rules)) id (startOffset g k + i) a (sym (ap (λ (y : ℕ). seek (g .unit) (listedOn m y) (startOffset g k + i)) o) ∙ s .sought)
+      shown-covered (startOffset g k + i) a (sym (ap (λ (y : ℕ). seek (g .unit) (listedOn m y) (startOffset g k + i)) o) ∙ found m k i a f .sought)
 
 module _ (m : List ℕ) (first n : ℕ) (c : Class) (e : freeSweep m first n ≡ answered c) where
   pub free-sweep-misses : (k i a : ℕ) → addressFound m k i ≡ answered a → covers (c .unit) (c .pairs) a ≡ false

@@ -4,12 +4,12 @@ use mathlib.Core.Bool.{true, false, cond}
 use mathlib.Core.List.{List, _++_}
 use Prim.Native.Nat.{ℕ, _+_, _*_, _<_}
 use lib.ListN.{length, getD}
-use Rattle.geometry.specs.Record.{geometryOf}
+use Rattle.geometry.specs.Record.{versionOf, geometryOf}
 use Rattle.model.specs.Chain.{Pair, Entry}
 use Rattle.model.specs.Answer.{answered}
 use Rattle.model.specs.Check.{mapRead}
 use Rattle.model.specs.Pieces.{piecesOfZones, objectPairs, freeSpans}
-use Rattle.listing.specs.Listed.{freeFound}
+use Rattle.listing.specs.Listed.{objectFound, freeFound}
 use Rattle.address.specs.Address.{idOf, seek, at, addressFound}
 use Rattle.model.specs.Refusals.{ByTable, Exactly}
 use Rattle.sweep.specs.Sweep.{Class, covers, sweptBytes, coveredCount, objectSpans, objectSweep, freeSweep}
@@ -19,9 +19,16 @@ pub record SweepLaws : Type 0 where
   -- the sweeps answer what their lines of the table say, in its order, and nothing else: each refusal "exactly when"
   pub sweep-by-table : (m : List ℕ) (id first n : ℕ) → Exactly (ByTable m (objectSweepLines m id first n) (objectClassOn m id)) (objectSweep m id first n)
   pub free-sweep-by-table : (m : List ℕ) (first n : ℕ) → Exactly (ByTable m (freeSweepLines m first n) (freeClassOn m)) (freeSweep m first n)
-  -- The sweeps' own answers. The sweep of an object covers exactly the addresses that `address` answers for it: each is that of a byte of
-  -- the file with its id and low byte 0, and each byte of a file with its id lies there;
-  pub sweep-reaches : (m : List ℕ) (id first n : ℕ) (c : Class) → objectSweep m id first n ≡ answered c
+  -- The sweeps' own answers. The sweep of an object covers exactly the bytes of the pieces that `list` answers for it;
+  pub sweep-lists : (m : List ℕ) (id first n : ℕ) (c : Class) → objectSweep m id first n ≡ answered c
+      → (room : ℕ) (qs : List Pair) → objectFound m id room ≡ answered qs → (a : ℕ) → covers (c .unit) (c .pairs) a ≡ true
+      → (i : ℕ) × (seek ((geometryOf m) .unit) qs i ≡ at a)
+  pub listed-swept : (m : List ℕ) (id first n : ℕ) (c : Class) → objectSweep m id first n ≡ answered c
+      → (room : ℕ) (qs : List Pair) → objectFound m id room ≡ answered qs → (i a : ℕ) → seek ((geometryOf m) .unit) qs i ≡ at a
+      → covers (c .unit) (c .pairs) a ≡ true
+  -- in version 0, exactly the addresses that `address` answers for it: each is that of a byte of the file with its id and low byte 0, and each
+  -- byte of a file with its id lies there;
+  pub sweep-reaches : (m : List ℕ) → versionOf m ≡ 0 → (id first n : ℕ) (c : Class) → objectSweep m id first n ≡ answered c
       → (a : ℕ) → covers (c .unit) (c .pairs) a ≡ true → (i : ℕ) × (addressFound m (id * 256) i ≡ answered a)
   pub reached-swept : (m : List ℕ) (id first n : ℕ) (c : Class) → objectSweep m id first n ≡ answered c
       → (k i a : ℕ) → idOf k ≡ id → addressFound m k i ≡ answered a → covers (c .unit) (c .pairs) a ≡ true

@@ -26,8 +26,8 @@ fn next_case() -> bool {
     true
 }
 
-// A case with its buffers, twice as long as the largest map there is (255 blocks of 1,024 bytes), and as the longest list and image of a
-// stored case: the part that the call works on, and after it the same as it was read.
+// A case with its buffers, twice as long as the largest map of version 0 (255 blocks of 1,024 bytes), and as the longest list and image of a
+// stored case: the part that the call works on, and after it the same as it was read. No stored map of E+ is longer.
 fn run_case(head: &[u8; 32]) {
     let mut map = [0u8; 522240];
     let mut list = [0u32; 2048];

@@ -98,7 +98,7 @@ fn print_calls(before: Option<Calls>, plan: &Plan) -> bool {
 
 /// All who make the calls of a size. An earlier build is none of them where it
 /// refuses the maps with 2, as one from before R-4 of document 02 does those of
-/// 255 zones.
+/// 255 zones, and one from before R-12 those of E+ discs.
 fn sides_of(before: Option<Calls>, size: &Size) -> Vec<Side> {
     let knows = |calls: &Calls| {
         let check = &size.cases[0][0];
@@ -158,19 +158,19 @@ fn print_how(times: &[Vec<Lowest>], plan: &Plan) {
         "Lowest time of {} to {} rounds (passes over all calls: {}). A round makes the call on each map of a \
          size, by the product and then by the reference, each on a fresh copy of the same input; only the \
          call is timed. A figure is the mean over the maps of each one's lowest time. Small maps are several, \
-         with 96 to 127 zones together; of 127 and of 255 zones there is one. Both sides gave the same \
-         answers and bytes before.",
+         with 96 to 127 zones together; of 127, of 255 and of 1,000 zones there is one. Both sides gave the \
+         same answers and bytes before.",
         rounds().min().unwrap_or(0),
         rounds().max().unwrap_or(0),
         plan.passes
     );
     println!();
     println!(
-        "Blocks of 1,024 bytes, idlen 15, 1,024 bytes a map bit, 4,128 bits a zone; the last row, of the most \
-         zones there can be, has blocks of 256 bytes and 2,016 bits a zone. The object listed, \
-         released and placed has two pieces in every zone. sweep_free has a window of 1 MiB. The claim's \
-         only hole is the last of the disc; ids begin anew in each zone, and in `packed` they go up from \
-         3 without a gap."
+        "Blocks of 1,024 bytes, idlen 15, 1,024 bytes a map bit, 4,128 bits a zone; the last two rows have \
+         blocks of 256 bytes and 2,016 bits a zone: the most zones of version 0, and an E+ disc with idlen 19. \
+         The object listed, released and placed has two pieces in every zone. sweep_free has a window of \
+         1 MiB. The claim's only hole is the last of the disc; ids begin anew in each zone, and in `packed` \
+         they go up from 3 without a gap."
     );
     println!();
     println!("{} The reference has overflow checks.", machine());
@@ -207,8 +207,8 @@ fn print_ratios(sizes: &[Size], times: &[Vec<Lowest>]) {
 
 fn print_growth(sizes: &[Size], times: &[Vec<Lowest>]) {
     println!(
-        "The product's microseconds a zone: even down a column where time grows with the map. The last row's \
-         blocks are a quarter as long, with about half as many fragments."
+        "The product's microseconds a zone: even down a column where time grows with the map. The last two \
+         rows' blocks are a quarter as long, with about half as many fragments."
     );
     println!();
     print_head(&["zones", "fragments a zone", "used %"]);
@@ -231,7 +231,7 @@ fn print_change(sizes: &[Size], times: &[Vec<Lowest>]) {
     println!(
         "Microseconds: after / before = ratio; after is the product, before the earlier build, which was called \
          in the same rounds and gave the same answers and bytes. Maps that it refuses with 2, as more than 127 \
-         zones were once, are left out."
+         zones and E+ discs were once, are left out."
     );
     println!();
     print_head(&["zones"]);

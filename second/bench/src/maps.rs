@@ -1,22 +1,26 @@
 //! The maps that are measured and the calls made on them.
 
 use reference::case::{Call, Case};
-use reference::generate::{build, Rng};
-use reference::geometry::{DiscRecord, Geometry, MOST_ZONES};
+use reference::generate::{build, record_of_zones, Rng};
+use reference::geometry::{DiscRecord, Edition, Geometry, MOST_ZONES};
 use reference::map::{check, Owner};
 
-/// The numbers of zones of 1,024-byte blocks measured. `MOST_ZONES` are measured
-/// with blocks of 256 bytes.
-const ZONES: [u8; 5] = [1, 2, 8, 32, 127];
+/// The numbers of zones of 1,024-byte blocks measured. `MOST_ZONES` and `E_PLUS`
+/// are measured with blocks of 256 bytes.
+const ZONES: [u16; 5] = [1, 2, 8, 32, 127];
+
+/// The zones of the E+ map (R-12 of document 02).
+const E_PLUS: u16 = 1_000;
 
 /// 127 zones of 1,024-byte blocks leave 258 ids a zone, hence 4,128 of the
 /// 8,192 bits. All sizes spare the same, so that their zones can be compared.
 const ZONE_SPARE: u16 = 4_064;
 
-/// Owned fragments and holes are this long, in map bits. A group of one to
-/// three fragments is followed by one hole, so that half of the space is used.
-const OWNED: (usize, usize) = (16, 64);
-const HOLE: (usize, usize) = (16, 144);
+/// Owned fragments and holes are up to this long, in map bits, and at least as
+/// long as the shortest. A group of one to three fragments is followed by one
+/// hole, so that half of the space is used.
+const OWNED: usize = 64;
+const HOLE: usize = 144;
 
 /// The last zone ends with a hole longer than all others.
 const LONG_HOLE: usize = 320;
@@ -32,7 +36,7 @@ const OBJECT_2: usize = 32;
 const SPREAD: [usize; 2] = [8, 20];
 
 /// The same with 256-byte blocks. Zone 0 has 1,536 bits there, so at least seven
-/// owned fragments: one for every `OWNED.1 + HOLE.1` bits, and the last.
+/// owned fragments: one for every `OWNED + HOLE` bits, and the last.
 const SPREAD_IN_SMALL: [usize; 2] = [2, 5];
 
 /// The bytes of disc image that are swept, from the middle of the disc.
@@ -76,21 +80,26 @@ impl Size {
     /// Small maps are several, with as many zones together as the largest
     /// has: a processor learns the branches of one small map by heart, and
     /// the rounds would then show a speed that no single call has.
-    fn new(nzones: u8) -> Size {
+    fn new(nzones: u16) -> Size {
         Size::with_maps(record(nzones), ZONES[ZONES.len() - 1] / nzones)
     }
 
-    /// One map of the most zones, in blocks of 256 bytes.
+    /// One map of the most zones of version 0, in blocks of 256 bytes.
     fn most_zones() -> Size {
         let record = DiscRecord {
             log2secsize: 8,
             zone_spare: 32,
-            ..record(MOST_ZONES as u8)
+            ..record(MOST_ZONES as u16)
         };
         Size::with_maps(whole_disc(record), 1)
     }
 
-    fn with_maps(record: DiscRecord, maps: u8) -> Size {
+    /// One map of an E+ disc, in blocks of 256 bytes and with the longest id.
+    fn e_plus() -> Size {
+        Size::with_maps(record_of_zones(8, E_PLUS, Edition::EPlus), 1)
+    }
+
+    fn with_maps(record: DiscRecord, maps: u16) -> Size {
         let geometry = accepted(&record);
         let mut size = Size {
             zones: geometry.nzones,
@@ -130,12 +139,12 @@ impl Size {
 /// All sizes, in the order of their rows.
 pub fn sizes() -> Vec<Size> {
     let mut sizes: Vec<Size> = ZONES.into_iter().map(Size::new).collect();
-    sizes.push(Size::most_zones());
+    sizes.extend([Size::most_zones(), Size::e_plus()]);
     sizes
 }
 
 /// The record of a disc with so many zones.
-fn record(nzones: u8) -> DiscRecord {
+fn record(nzones: u16) -> DiscRecord {
     whole_disc(DiscRecord {
         log2secsize: 10,
         idlen: 15,
@@ -143,6 +152,8 @@ fn record(nzones: u8) -> DiscRecord {
         nzones,
         zone_spare: ZONE_SPARE,
         disc_size: 0,
+        size_high: 0,
+        version: 0,
     })
 }
 
@@ -199,17 +210,18 @@ fn make_zone(
     }
 
     let mut owned = 0;
+    let shortest = geometry.shortest_fragment;
     // A whole group must fit, with a fragment after it for what is left.
-    while room >= 3 * OWNED.1 + HOLE.1 + OWNED.0 {
+    while room >= 3 * OWNED + HOLE + shortest {
         for _ in 0..rng.between(1, 3) {
             parts.push((
                 owner(geometry, owned, next_id),
-                rng.between(OWNED.0, OWNED.1),
+                rng.between(shortest, OWNED),
             ));
             room -= parts[parts.len() - 1].1;
             owned += 1;
         }
-        let hole = rng.between(HOLE.0, HOLE.1);
+        let hole = rng.between(shortest, HOLE);
         parts.push((Owner::Free, hole));
         room -= hole;
     }

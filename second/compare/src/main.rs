@@ -5,18 +5,20 @@
 //! SEEDS names the seeds: `N` for 0 to N-1, or `A..B` for A to B-1. If TRACE
 //! is set, each call is named before it is made, to find one that never
 //! returns. If MAP_LINES names the product's small program, that is run on the
-//! first map of some of the seeds.
+//! first map of some of the seeds. A few large maps of E+ discs are compared in
+//! every run.
 
 use std::env;
 use std::process::ExitCode;
 
+mod large;
 mod program;
 
 use product::Told;
 use program::Program;
 use reference::case::{Call, Case, Outcome, CALLS};
 use reference::generate::{play, Sizes};
-use reference::geometry::LARGEST_MAP;
+use reference::geometry::{DiscRecord, LARGEST_MAP};
 use reference::map::{check, only_reserved_bytes_are_wrong, CheckedMap};
 
 /// Guard bytes or entries before and after what is lent.
@@ -156,14 +158,14 @@ fn first_difference<T: PartialEq + std::fmt::Debug>(
 }
 
 fn describe(
-    seed: u64,
+    of: &str,
     step: u64,
     case: &Case,
     names: [&str; 2],
     outcomes: [&Outcome; 2],
     kept: bool,
 ) -> String {
-    let mut text = format!("seed {seed}, call {step} of it: {}\n", case.call.name());
+    let mut text = format!("{of}, call {step} of it: {}\n", case.call.name());
     text += &format!(
         "  id or n {}, position, first address or size {}, fill {}\n",
         case.number, case.wide, case.fill
@@ -212,6 +214,10 @@ struct Tally {
     many_zones: u64,
     /// Maps with a dirty record, right in every other way (R-7 of document 02).
     dirty_records: u64,
+    /// Accepted maps of E+ discs, and accepted ones of more than 255 zones (R-12 of
+    /// document 02).
+    e_plus: u64,
+    above_255_zones: u64,
     last_map: Vec<u8>,
     differences: u64,
     smallest: Option<Difference>,
@@ -224,54 +230,78 @@ impl Tally {
             geometries: [0; 18],
             many_zones: 0,
             dirty_records: 0,
+            e_plus: 0,
+            above_255_zones: 0,
             last_map: Vec::new(),
             differences: 0,
             smallest: None,
         }
     }
 
-    fn compare(&mut self, seed: u64, step: u64, case: &Case, ours: &Outcome) {
+    fn compare(&mut self, of: &str, step: u64, case: &Case, ours: &Outcome) {
         let (theirs, kept) = run_product(case, (step % 8) as usize);
         self.compared[case.call as usize][ours.number as usize] += 1;
         if *ours != theirs || !kept {
             let names = ["reference", "product"];
             self.differ(lent(case), || {
-                describe(seed, step, case, names, [ours, &theirs], kept)
+                describe(of, step, case, names, [ours, &theirs], kept)
             });
         }
         if case.call == Call::SweepFree {
-            self.compare_sweeps(seed, step, case, &theirs);
+            self.compare_sweeps(of, step, case, &theirs);
         }
     }
 
     /// Holds the two programs of `sweep` against the product.
-    fn compare_sweeps(&mut self, seed: u64, step: u64, case: &Case, theirs: &Outcome) {
+    fn compare_sweeps(&mut self, of: &str, step: u64, case: &Case, theirs: &Outcome) {
         for (name, program) in SWEEPS {
             let ours = run_sweep(case, program);
             if ours != *theirs {
                 let names = [name, "product"];
                 self.differ(lent(case), || {
-                    describe(seed, step, case, names, [&ours, theirs], true)
+                    describe(of, step, case, names, [&ours, theirs], true)
                 });
             }
         }
     }
 
-    fn compare_geometry(&mut self, seed: u64, step: u64, map: &[u8]) {
+    /// Answers the geometry where the map is another than in the step before.
+    fn compare_geometry(&mut self, of: &str, step: u64, map: &[u8]) -> Option<Told> {
         if step > 0 && map == self.last_map {
-            return;
+            return None;
         }
         self.last_map = map.to_vec();
         let ours = geometry(map);
         let mut lent = Lent::new(map, 0xA5, (step % 8) as usize);
         let theirs = product::geometry(lent.slice());
         self.geometries[ours.number as usize] += 1;
-        self.many_zones += u64::from(ours.numbers[2] > 127);
-        self.dirty_records += u64::from(only_reserved_bytes_are_wrong(map));
         if ours != theirs || lent.contents() != map || !lent.guard_kept() {
-            let of = format!("seed {seed}, the map of call {step} of it: geometry\n");
+            let of = format!("{of}, the map of call {step} of it: geometry\n");
             let text = format!("{of}  reference: {ours:?}\n  product: {theirs:?}\n");
             self.differ(map.len(), || text);
+        }
+        Some(ours)
+    }
+
+    /// Counts a generated map by what requests of document 02 brought.
+    fn count(&mut self, map: &[u8], told: &Told) {
+        let nzones = told.numbers[2];
+        self.many_zones += u64::from(nzones > 127);
+        self.above_255_zones += u64::from(nzones > 255);
+        self.e_plus += u64::from(told.number == 0 && DiscRecord::read(map).version == 1);
+        self.dirty_records += u64::from(only_reserved_bytes_are_wrong(map));
+    }
+
+    /// The calls on the large maps, which are not counted as generated ones.
+    fn compare_large(&mut self, trace: bool) {
+        for (of, cases) in large::maps() {
+            for (case, step) in cases.iter().zip(0..) {
+                if trace {
+                    eprintln!("{of}, call {step} of it: {}", case.call.name());
+                }
+                self.compare_geometry(&of, step, &case.map);
+                self.compare(&of, step, case, &case.run());
+            }
         }
     }
 
@@ -296,6 +326,20 @@ impl Tally {
         }
     }
 
+    fn print_counts(&self) {
+        let swept: u64 = self.compared[Call::SweepFree as usize].iter().sum();
+        println!("{swept} sweeps of free space made by simple and fast too");
+        println!(
+            "{} accepted maps of more than 127 zones, {} of more than 255",
+            self.many_zones, self.above_255_zones
+        );
+        println!("{} accepted maps of E+ discs", self.e_plus);
+        println!(
+            "{} maps with a dirty record, right in every other way",
+            self.dirty_records
+        );
+    }
+
     /// What is wrong with the whole run, in lines; none where all agree and
     /// everything was reached.
     fn complaints(&self) -> Vec<String> {
@@ -317,8 +361,20 @@ impl Tally {
         for number in (0..=7).filter(|number| self.geometries[*number] == 0) {
             lines.push(format!("no geometry was answered with {number}"));
         }
-        if self.dirty_records == 0 {
-            lines.push("no map had a dirty record and was right in every other way".to_string());
+        for (count, complaint) in [
+            (
+                self.dirty_records,
+                "no map had a dirty record and was right in every other way",
+            ),
+            (self.e_plus, "no map of an E+ disc was accepted"),
+            (
+                self.above_255_zones,
+                "no map of more than 255 zones was accepted",
+            ),
+        ] {
+            if count == 0 {
+                lines.push(complaint.to_string());
+            }
         }
         lines
     }
@@ -332,7 +388,8 @@ fn print_row(name: &str, counts: &[u64; 18]) {
     println!("{:>9}", counts.iter().sum::<u64>());
 }
 
-/// Compares every call of the seeds, and some maps through the small program.
+/// Compares the large maps, every call of the seeds, and some maps through the
+/// small program.
 fn compare(seeds: std::ops::Range<u64>, program: &mut Option<Program>) -> Tally {
     let sizes = Sizes {
         map: LARGEST_MAP,
@@ -341,19 +398,23 @@ fn compare(seeds: std::ops::Range<u64>, program: &mut Option<Program>) -> Tally 
     };
     let trace = env::var_os("TRACE").is_some();
     let mut tally = Tally::new();
+    tally.compare_large(trace);
     for seed in seeds {
+        let of = format!("seed {seed}");
         let mut step = 0;
         play(seed, &sizes, &mut |case, ours| {
             if trace {
-                eprintln!("seed {seed}, call {step} of it: {}", case.call.name());
+                eprintln!("{of}, call {step} of it: {}", case.call.name());
             }
             if let (Some(program), 0, 0) = (program.as_mut(), step, seed % LISTED) {
-                let name = format!("the first map of seed {seed}");
+                let name = format!("the first map of {of}");
                 let told = program.compare(&name, &case.map);
                 told.expect("the small program runs");
             }
-            tally.compare_geometry(seed, step, &case.map);
-            tally.compare(seed, step, case, ours);
+            if let Some(told) = tally.compare_geometry(&of, step, &case.map) {
+                tally.count(&case.map, &told);
+            }
+            tally.compare(&of, step, case, ours);
             step += 1;
         });
     }
@@ -381,14 +442,7 @@ fn main() -> ExitCode {
     let all: u64 = tally.compared.iter().flatten().sum();
     println!("seeds {}..{}: {all} calls compared", seeds.start, seeds.end);
     tally.print_table();
-
-    let swept: u64 = tally.compared[Call::SweepFree as usize].iter().sum();
-    println!("{swept} sweeps of free space made by simple and fast too");
-    println!("{} accepted maps of more than 127 zones", tally.many_zones);
-    println!(
-        "{} maps with a dirty record, right in every other way",
-        tally.dirty_records
-    );
+    tally.print_counts();
 
     let complaints = tally.complaints();
     for complaint in &complaints {

@@ -3,7 +3,8 @@
 use std::io::{self, ErrorKind, Read, Write};
 use std::process::{Command, Stdio};
 
-use reference::generate::{map_a, map_b, map_of_zones, with_bytes};
+use reference::generate::{map_a, map_b, map_of_zones, record_of_zones, with_bytes};
+use reference::geometry::Edition;
 use reference::lines::{lines, LONGEST_MAP};
 use reference::map::check;
 
@@ -47,16 +48,24 @@ impl Program {
     }
 
     /// Maps A and B, A with a dirty record (R-7 of document 02), no bytes, lengths
-    /// around the longest that is read, and the two valid maps of many zones
-    /// nearest to it. R-4 of document 02 does not raise that length, so that the
-    /// longer of them is refused.
+    /// around the longest that is read, and the two valid maps of many zones of
+    /// each edition nearest to it. of document 02 do not raise that
+    /// length, so that the longer of them are refused.
     pub fn compare_fixed(&mut self) -> io::Result<()> {
         let mut long = map_a();
         long.resize(LONGEST_MAP + 1, 0);
         let dirty = with_bytes(&map_a(), 63, &[1]);
-        let (shorter, longer) = (map_of_zones(8, 255), map_of_zones(9, 129));
-        assert!(shorter.len() <= LONGEST_MAP && longer.len() > LONGEST_MAP);
-        assert!(check(&shorter).is_ok() && check(&longer).is_ok());
+        let of_zones = |log2secsize, nzones, edition| {
+            map_of_zones(&record_of_zones(log2secsize, nzones, edition))
+        };
+        let shorter = of_zones(8, 255, Edition::E);
+        let longer = of_zones(9, 129, Edition::E);
+        let longest = of_zones(8, 256, Edition::EPlus);
+        let too_long = of_zones(8, 257, Edition::EPlus);
+        assert!(shorter.len() < LONGEST_MAP && longer.len() > LONGEST_MAP);
+        assert!(longest.len() == LONGEST_MAP && too_long.len() > LONGEST_MAP);
+        let maps = [&shorter, &longer, &longest, &too_long];
+        assert!(maps.into_iter().all(|map| check(map).is_ok()));
         for (name, map) in [
             ("map A", &map_a()[..]),
             ("map B", &map_b()[..]),
@@ -70,6 +79,8 @@ impl Program {
             ),
             ("a map of 255 zones of 256 bytes", &shorter[..]),
             ("a map of 129 zones of 512 bytes", &longer[..]),
+            ("an E+ map of 256 zones of 256 bytes", &longest[..]),
+            ("an E+ map of 257 zones of 256 bytes", &too_long[..]),
         ] {
             self.compare(name, map)?;
         }

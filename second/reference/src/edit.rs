@@ -1,6 +1,8 @@
 //! The edits: release, place and claim (document 01, "The calls", and
 //! "Zone check and cross check" for the bytes they write).
 
+use std::collections::BTreeSet;
+
 use crate::geometry::Geometry;
 use crate::map::{
     block_mut, check, write_fragments, zone_check_by_words, CheckedMap, Fragment, Owner,
@@ -55,13 +57,7 @@ pub fn claim(map: &mut [u8], size: u64) -> Result<Claimed, Refusal> {
     }
     let geometry = &checked.geometry;
 
-    let mut id = 3;
-    while id < geometry.ids() as u32 && !checked.object(id)?.is_empty() {
-        id += 1;
-    }
-    if id as usize == geometry.ids() {
-        return Err(Refusal::plain(14));
-    }
+    let id = lowest_unused_id(&checked).ok_or(Refusal::plain(14))?;
 
     // The size rounded up to clusters, in map bits, and at least m.
     let cluster_bytes = geometry.cluster_bits as u128 * geometry.bytes_per_map_bit as u128;
@@ -91,6 +87,18 @@ pub fn claim(map: &mut [u8], size: u64) -> Result<Claimed, Refusal> {
     take(map, &checked, &[piece])?;
     let (start, length) = checked.pair(&piece);
     Ok(Claimed { id, start, length })
+}
+
+/// The lowest id from 3 that is not on the map. Those that are there are gathered
+/// first, as an E+ disc may have up to 2^19 of them.
+fn lowest_unused_id(checked: &CheckedMap) -> Option<u32> {
+    let mut used = BTreeSet::new();
+    for fragment in checked.fragments() {
+        if let Owner::Object(id) = fragment.owner {
+            used.insert(id);
+        }
+    }
+    (3..checked.geometry.ids() as u32).find(|id| !used.contains(id))
 }
 
 /// Refusal 9: two free fragments of a zone touch.

@@ -2,7 +2,10 @@
 //! to them, arguments for each call, and runs of calls. A seed decides all.
 
 use crate::case::{Call, Case, Outcome, CALLS};
-use crate::geometry::{DiscRecord, Geometry, MOST_ZONES, RESERVED};
+use crate::geometry::{
+    DiscRecord, Edition, Geometry, MOST_ZONES, NZONES_HIGH, RESERVED, SIZE_HIGH, VERSION,
+    ZONE_0_SHORTFALL,
+};
 use crate::map::{
     block_mut, check, set_bit, set_number, write_fragments, zone_check_by_words, CheckedMap,
     Fragment, Owner,
@@ -47,6 +50,12 @@ impl Rng {
     pub fn byte(&mut self) -> u8 {
         self.word() as u8
     }
+
+    /// Another generator, for decisions after which this one goes on as if there
+    /// had been none.
+    fn aside(&self) -> Rng {
+        Rng::new(!self.state)
+    }
 }
 
 /// The largest map, list and image stretch wanted.
@@ -62,61 +71,103 @@ pub struct Sizes {
 /// The longest zone of which `MOST_ZONES` have at most 2^15 ids.
 const LONGEST_OF_MANY: usize = 128 * 16 + 15;
 
-/// A disc record inside its ranges, on which a valid map can stand.
+/// The fewest zones that a byte does not hold.
+const ABOVE_A_BYTE: usize = 256;
+
+/// A disc record inside its ranges, on which a valid map can stand. A third of
+/// them are E+ (R-12 of document 02).
 pub fn disc_record(rng: &mut Rng, largest_map: usize) -> DiscRecord {
-    // Few records leave room for more than 127 zones, so some are made for it.
-    let many_zones = largest_map >= MOST_ZONES * 256 && rng.percent(20);
+    let mut aside = rng.aside();
+    let record = record_of(rng, largest_map, Edition::E);
+    if aside.percent(33) {
+        return record_of(&mut aside, largest_map, Edition::EPlus);
+    }
+    record
+}
+
+/// A disc record of one edition. Few leave room for many zones, more than 127 or,
+/// in E+, than a byte holds, so some are made for it.
+pub fn record_of(rng: &mut Rng, largest_map: usize, edition: Edition) -> DiscRecord {
+    let (many, percent) = match edition {
+        Edition::E => (MOST_ZONES, 20),
+        Edition::EPlus => (ABOVE_A_BYTE, 40),
+    };
+    let many = (largest_map >= many * 256 && rng.percent(percent)).then_some(edition);
     let log2secsize = rng.pick(&[8usize, 8, 8, 9, 10]);
-    let idlen = if many_zones {
-        15
-    } else {
-        rng.between(log2secsize + 3, 15)
+    let idlen = match many {
+        Some(Edition::E) => 15,
+        Some(Edition::EPlus) => rng.between(16, 19),
+        None => rng.between(log2secsize + 3, edition.longest_id() as usize),
     };
     let log2bpmb = rng.between(7, 12);
     let sector_size = 1usize << log2secsize;
-    let k = if log2bpmb < log2secsize {
-        1 << (log2secsize - log2bpmb)
-    } else {
-        1
-    };
-    let m = (idlen + 1).div_ceil(k) * k;
+    let k = 1 << log2secsize.saturating_sub(log2bpmb);
 
-    // Z: the largest, near it, near the smallest, anywhere, or one that makes
-    // P a power of two, so that P*nzones can be 2^idlen.
-    let mut largest = 8 * sector_size - 32;
-    if many_zones {
-        largest = largest.min(LONGEST_OF_MANY) / k * k;
+    let mut longest = 8 * sector_size - 32;
+    if many == Some(Edition::E) {
+        longest = longest.min(LONGEST_OF_MANY) / k * k;
     }
-    let smallest = 480 + m;
+    let (zone_bits, power_of_two) = some_zone_bits(rng, idlen, k, longest);
+    let by_ids = (1 << idlen) / (zone_bits / (idlen + 1));
+    let most = by_ids
+        .min(edition.most_zones())
+        .min(largest_map / sector_size)
+        .max(1);
+    let nzones = if power_of_two && by_ids <= most {
+        by_ids
+    } else {
+        some_nzones(rng, most, many)
+    };
+
+    let record = DiscRecord {
+        log2secsize: log2secsize as u8,
+        idlen: idlen as u8,
+        log2bpmb: log2bpmb as u8,
+        nzones: nzones as u16,
+        zone_spare: (8 * sector_size - zone_bits) as u16,
+        disc_size: sector_size as u32,
+        size_high: 0,
+        version: edition.version(),
+    };
+    DiscRecord {
+        disc_size: some_disc_size(rng, &record),
+        ..record
+    }
+}
+
+/// Z: the longest, near it, near the shortest, anywhere, or one that makes P a power
+/// of two, so that P*nzones can be 2^idlen. Answers whether it does.
+fn some_zone_bits(rng: &mut Rng, idlen: usize, k: usize, longest: usize) -> (usize, bool) {
+    let shortest = ZONE_0_SHORTFALL + (idlen + 1).div_ceil(k) * k;
     let mut power_of_two = false;
-    let mut zone_bits = match rng.below(10) {
-        0..=4 => largest,
-        5 | 6 => largest - k * rng.below(60),
-        7 => smallest + k * rng.below(4),
-        8 => smallest + k * rng.below((largest - smallest) / k + 1),
+    let zone_bits = match rng.below(10) {
+        0..=4 => longest,
+        5 | 6 => longest - k * rng.below(60),
+        7 => shortest + k * rng.below(4),
+        8 => shortest + k * rng.below((longest - shortest) / k + 1),
         _ => {
             power_of_two = true;
             (rng.pick(&[32, 64, 128, 256, 512]) * (idlen + 1)).div_ceil(k) * k
         }
     };
-    if zone_bits < smallest || zone_bits > largest {
-        power_of_two = false;
-        zone_bits = largest;
+    if zone_bits < shortest || zone_bits > longest {
+        return (longest, false);
     }
-    let ids_per_zone = zone_bits / (idlen + 1);
+    (zone_bits, power_of_two)
+}
 
-    let by_ids = (1 << idlen) / ids_per_zone;
-    let most = by_ids.min(MOST_ZONES).min(largest_map / sector_size).max(1);
-    let nzones = if power_of_two && by_ids <= most {
-        by_ids
-    } else {
-        some_nzones(rng, most, many_zones)
-    };
-
-    // Where the disc ends: the middle zone's first m bits must be on it.
-    let disc_bits = nzones * zone_bits - 480;
-    let zone_start = |zone: usize| (zone * zone_bits).saturating_sub(480);
-    let middle = nzones / 2;
+/// Where the disc of a record ends: the middle zone's first m bits must be on it,
+/// and its size has 32 bits.
+fn some_disc_size(rng: &mut Rng, record: &DiscRecord) -> u32 {
+    let geometry = Geometry::accept(record).expect("a record inside its ranges");
+    let (k, m) = (geometry.cluster_bits, geometry.shortest_fragment);
+    let (sector_size, nzones) = (geometry.sector_size, geometry.nzones);
+    let bytes_per_map_bit = geometry.bytes_per_map_bit as usize;
+    let disc_bits = geometry
+        .disc_bits()
+        .min(u32::MAX as usize / bytes_per_map_bit);
+    let zone_start = |zone: usize| (zone * geometry.zone_bits).saturating_sub(480);
+    let middle = geometry.middle_zone();
     let earliest = zone_start(middle) + m;
     let mut end = match rng.below(10) {
         0..=3 => disc_bits,
@@ -134,34 +185,26 @@ pub fn disc_record(rng: &mut Rng, largest_map: usize) -> DiscRecord {
     if end < middle_end && end.min(middle_end - m) < earliest {
         end = disc_bits;
     }
-    let bytes_per_map_bit = 1usize << log2bpmb;
     let mut disc_size = end * bytes_per_map_bit;
-    if bytes_per_map_bit > sector_size && end < disc_bits {
+    if bytes_per_map_bit > sector_size && end < geometry.disc_bits() {
         disc_size += sector_size * rng.below(bytes_per_map_bit / sector_size);
     }
-
-    DiscRecord {
-        log2secsize: log2secsize as u8,
-        idlen: idlen as u8,
-        log2bpmb: log2bpmb as u8,
-        nzones: nzones as u8,
-        zone_spare: (8 * sector_size - zone_bits) as u16,
-        disc_size: disc_size as u32,
-    }
+    disc_size as u32
 }
 
-/// A number of zones up to `most`: mostly few, or from 128 on, and then 255 about
-/// every second time.
-fn some_nzones(rng: &mut Rng, most: usize, many: bool) -> usize {
-    let nzones = if many {
-        rng.between(128, 2 * MOST_ZONES - 128)
-    } else {
-        match rng.below(20) {
+/// A number of zones up to `most`: mostly few, or many for an edition. For version 0
+/// that is from 128 on, and 255 about every second time; for E+ more than a byte
+/// holds.
+fn some_nzones(rng: &mut Rng, most: usize, many: Option<Edition>) -> usize {
+    let nzones = match many {
+        Some(Edition::E) => rng.between(128, 2 * MOST_ZONES - 128),
+        Some(Edition::EPlus) => rng.between(ABOVE_A_BYTE, most.max(ABOVE_A_BYTE)),
+        None => match rng.below(20) {
             0..=5 => 1,
             6..=13 => rng.between(2, 4),
             14..=17 => rng.between(5, 12),
             _ => rng.between(1, most),
-        }
+        },
     };
     nzones.min(most)
 }
@@ -214,6 +257,12 @@ pub fn with_bytes(map: &[u8], at: usize, bytes: &[u8]) -> Vec<u8> {
     map
 }
 
+/// A whole map of version 0 as one of an E+ disc (R-12 of document 02), all else as
+/// it was.
+pub fn as_e_plus(map: &[u8]) -> Vec<u8> {
+    with_bytes(map, VERSION.start, &[1])
+}
+
 /// Changes the last block's cross check so that all together give 255.
 pub fn repair_cross_checks(map: &mut [u8], sector_size: usize) {
     let mut all = 0;
@@ -260,11 +309,13 @@ pub fn valid_map(rng: &mut Rng, record: &DiscRecord) -> Vec<u8> {
     let last_id = geometry.ids() - 1;
 
     // Carried fields and bits after a zone's end: noise in half of the maps. The
-    // reserved bytes are judged, and stay 0.
+    // reserved bytes are judged but in E+, and stay 0.
     let mut map = vec![0; geometry.nzones * geometry.sector_size];
     if rng.percent(50) {
         map.iter_mut().for_each(|byte| *byte = rng.byte());
-        map[RESERVED].fill(0);
+        if geometry.edition == Edition::E {
+            map[RESERVED].fill(0);
+        }
     }
     record.write(&mut map);
 
@@ -413,10 +464,30 @@ fn damage_length(rng: &mut Rng, map: &mut Vec<u8>, geometry: &Geometry) {
         }
     };
     map.resize(length, rng.byte());
+    let mut aside = rng.aside();
+    if map.len() == whole && geometry.edition == Edition::EPlus {
+        damage_high_byte(&mut aside, map, geometry);
+    }
 }
 
-/// Towards refusal 2: the reserved bytes, a field, or both.
+/// Towards refusal 1 in E+: another high byte of nzones, or the length that would
+/// be right without it.
+fn damage_high_byte(rng: &mut Rng, map: &mut Vec<u8>, geometry: &Geometry) {
+    if geometry.nzones > ABOVE_A_BYTE && rng.percent(50) {
+        map.truncate(geometry.nzones % ABOVE_A_BYTE * geometry.sector_size);
+    } else {
+        map[NZONES_HIGH] = rng.pick(&[0, 1, 2, 16, 255]);
+        repair(map, geometry.sector_size);
+    }
+}
+
+/// Towards refusal 2: the reserved bytes, a field, or both, or what R-12 of
+/// document 02 brought.
 fn damage_record(rng: &mut Rng, map: &mut [u8], geometry: &Geometry) {
+    let mut aside = rng.aside();
+    if aside.percent(25) {
+        damage_edition(&mut aside, map, geometry.edition);
+    }
     let what = rng.below(10);
     if what < 4 {
         dirty_record(rng, map);
@@ -450,24 +521,46 @@ fn dirty_record(rng: &mut Rng, map: &mut [u8]) {
     }
 }
 
+/// What R-12 of document 02 judges: the version, the high half of the size, the
+/// high byte of nzones, and the longest id.
+fn damage_edition(rng: &mut Rng, map: &mut [u8], edition: Edition) {
+    let set_bit = 1 << rng.below(8);
+    match rng.below(10) {
+        // Neither 0 nor 1, by one of the four bytes or by several.
+        0 | 1 => map[rng.between(VERSION.start, VERSION.end - 1)] = set_bit,
+        2 => {
+            let version = rng.pick(&[2u32, 3, 255, 257, 65_537, 1 << 24 | 1, u32::MAX]);
+            map[VERSION].copy_from_slice(&version.to_le_bytes());
+        }
+        // The other edition, all else as it was.
+        3..=5 => map[VERSION.start] ^= 1,
+        6 | 7 => map[rng.between(SIZE_HIGH.start, SIZE_HIGH.end - 1)] = set_bit,
+        8 => map[NZONES_HIGH] ^= set_bit,
+        _ => map[8] = edition.longest_id() + rng.between(1, 2) as u8,
+    }
+}
+
 /// One field outside or at the edge of its range. A small disc_size goes with
 /// most changes, so that no other rule is broken by them.
 fn damage_field(rng: &mut Rng, map: &mut [u8], geometry: &Geometry) {
     let mut record = DiscRecord::read(map);
     let whole_block = 8 * geometry.sector_size;
     let k = geometry.cluster_bits;
+    // The version may have been damaged before.
+    let edition = Edition::of_version(record.version).unwrap_or(geometry.edition);
+    let most_zones = edition.most_zones();
     let most_bytes = geometry.disc_bits() as u64 * geometry.bytes_per_map_bit;
     let what = rng.below(22);
     match what {
         0 => record.log2secsize = rng.pick(&[0, 7, 11, 255]),
         1 => record.log2secsize = rng.pick(&[8, 9, 10]),
         2 => record.idlen = record.log2secsize + 2,
-        3 => record.idlen = 16,
+        3 => record.idlen = edition.longest_id() + 1,
         4 => record.idlen = rng.pick(&[0, 10, 11, 255]),
         5 => record.log2bpmb = rng.pick(&[6, 13]),
         6 => record.log2bpmb = rng.pick(&[0, 7, 12, 255]),
-        // 0 is outside; 255 is inside, but may break the rule on P*nzones.
-        7 => record.nzones = rng.pick(&[0, 0, 255]),
+        // 0 is outside; the most is inside, but may break the rule on P*nzones.
+        7 => record.nzones = rng.pick(&[0, 0, most_zones as u16]),
         8 => record.zone_spare = 31,
         9 => record.zone_spare = 32 - k as u16,
         10 => record.zone_spare = rng.pick(&[0, 16, 24]),
@@ -479,10 +572,9 @@ fn damage_field(rng: &mut Rng, map: &mut [u8], geometry: &Geometry) {
         }
         14 => record.zone_spare = rng.pick(&[65_535, 32_768, whole_block as u16, 8_192, 8_191]),
         15 => {
-            // P*nzones above 2^idlen, where that takes at most 255 zones. A
-            // byte holds no more, so that a higher number stays at 255.
+            // P*nzones above 2^idlen, where there can be so many zones.
             let nzones = (1 << geometry.idlen) / geometry.ids_per_zone + 1;
-            record.nzones = nzones.min(MOST_ZONES) as u8;
+            record.nzones = nzones.min(most_zones) as u16;
         }
         16 => record.disc_size = 0,
         17 => record.disc_size -= rng.between(1, geometry.sector_size - 1) as u32,
@@ -512,6 +604,13 @@ fn damage_link(rng: &mut Rng, map: &mut [u8], checked: &CheckedMap) {
         .filter(|fragment| fragment.owner == Owner::Free)
         .collect();
     let block = block_mut(map, geometry.sector_size, zone);
+    let mut aside = rng.aside();
+    if geometry.edition == Edition::EPlus && !free.is_empty() && aside.percent(25) {
+        // No block has so many bits, but the link may be right without this one.
+        let high = aside.between(geometry.idlen.min(14), geometry.idlen) - 1;
+        set_bit(block, aside.pick(&free).start + high, true);
+        return;
+    }
     if rng.percent(20) {
         block[2] &= 0x7F;
         return;
@@ -658,7 +757,9 @@ fn noise(rng: &mut Rng, largest_map: usize) -> Vec<u8> {
         .map(|_| if rng.percent(density) { rng.byte() } else { 0 })
         .collect();
     // A dirty record would hide the noise behind it.
-    map[RESERVED].fill(0);
+    if record.version == 0 {
+        map[RESERVED].fill(0);
+    }
     record.write(&mut map);
     if rng.percent(90) {
         for block in map.chunks_exact_mut(sector_size) {
@@ -685,6 +786,14 @@ pub fn any_map(rng: &mut Rng, largest_map: usize) -> Vec<u8> {
     let record = disc_record(rng, largest_map);
     let sector_size = 1 << record.log2secsize;
     let mut map = valid_map(rng, &record);
+    let mut aside = rng.aside();
+    if aside.percent(8) {
+        // Nothing wrong but what R-12 of document 02 brought.
+        let edition = check(&map).expect("a valid map").geometry.edition;
+        damage_edition(&mut aside, &mut map, edition);
+        repair(&mut map, sector_size);
+        return map;
+    }
     match rng.below(10) {
         0..=5 => {
             let refusal = rng.pick(&[1, 2, 2, 3, 4, 5, 6, 6, 7, 7]);
@@ -728,6 +837,11 @@ fn some_id(rng: &mut Rng, checked: &CheckedMap, present_percent: usize) -> u32 {
     }
     if !present.is_empty() && rng.percent(present_percent) {
         return rng.pick(&present);
+    }
+    let mut aside = rng.aside();
+    if !present.is_empty() && ids > 1 << 16 && aside.percent(20) {
+        // The same as one on the map in its low 16 bits.
+        return aside.pick(&present) ^ 1 << aside.between(16, 18);
     }
     if rng.percent(75) {
         return rng.between(3, ids as usize - 1) as u32;
@@ -1237,6 +1351,7 @@ pub fn map_690() -> Vec<u8> {
         nzones: 8,
         zone_spare: 32,
         disc_size: (8 * 2_016 - 480 - 1_000) * 1_024,
+        ..FLOPPY
     };
     let object = |id: u32, length: usize| (Owner::Object(id), length);
     let free = |length: usize| (Owner::Free, length);
@@ -1277,6 +1392,7 @@ pub fn map_of_eight_zones() -> Vec<u8> {
         nzones: 8,
         zone_spare: 32,
         disc_size: (8 * 2_016 - 480) * 1_024,
+        ..FLOPPY
     };
     let mut zones = vec![vec![(Owner::Free, 2_016)]; 8];
     zones[0] = vec![(Owner::Free, 1_536)];
@@ -1284,33 +1400,44 @@ pub fn map_of_eight_zones() -> Vec<u8> {
     build(&record, &zones)
 }
 
-/// Up to 255 zones of blocks of 2^log2secsize bytes (R-4 of document 02). Each
-/// has an object of its own, one bit longer than that of the zone before, and
-/// then a free fragment.
-pub fn map_of_zones(log2secsize: u8, nzones: u8) -> Vec<u8> {
+/// A record of so many zones of blocks of 2^log2secsize bytes, in version 0 or, as
+/// E+, in version 1: with the longest id, zones as long as they can be, a map bit
+/// of 1,024 bytes, and a disc that ends where the map does.
+pub fn record_of_zones(log2secsize: u8, nzones: u16, edition: Edition) -> DiscRecord {
     let zone_bits = (8 << log2secsize) - 32;
-    let record = DiscRecord {
+    DiscRecord {
         log2secsize,
-        idlen: 15,
+        idlen: edition.longest_id(),
         log2bpmb: 10,
         nzones,
         zone_spare: 32,
         disc_size: (nzones as u32 * zone_bits - 480) * 1_024,
-    };
-    let geometry = Geometry::accept(&record).expect("a record inside its ranges");
+        size_high: 0,
+        version: edition.version(),
+    }
+}
+
+/// A map of many zones. Each has an object of its own, one bit longer than that of
+/// the zone before as far as zone 0 has room, and then a free fragment.
+pub fn map_of_zones(record: &DiscRecord) -> Vec<u8> {
+    let geometry = Geometry::accept(record).expect("a record inside its ranges");
+    let m = geometry.shortest_fragment;
+    let lengths = geometry.zone_bits - ZONE_0_SHORTFALL - m + 1;
     let zone = |zone: usize| {
         let id = geometry.ids_per_zone * zone + 7;
-        let mut parts = vec![(Owner::Object(id as u32), 16 + zone)];
+        let mut parts = vec![(Owner::Object(id as u32), m + zone % lengths)];
         if zone == geometry.middle_zone() {
-            parts.insert(0, (Owner::Object(2), 16));
+            parts.insert(0, (Owner::Object(2), m));
         }
         let owned: usize = parts.iter().map(|(_, length)| length).sum();
         let bits = geometry.end_block_bit() - geometry.first_block_bit(zone);
-        parts.push((Owner::Free, bits - owned));
+        if bits > owned {
+            parts.push((Owner::Free, bits - owned));
+        }
         parts
     };
     let zones: Vec<_> = (0..geometry.nzones).map(zone).collect();
-    build(&record, &zones)
+    build(record, &zones)
 }
 
 /// The record of an 800K floppy.
@@ -1321,6 +1448,8 @@ pub const FLOPPY: DiscRecord = DiscRecord {
     nzones: 1,
     zone_spare: 1_312,
     disc_size: 819_200,
+    size_high: 0,
+    version: 0,
 };
 
 /// The 800K floppy of the last bench line.

@@ -1,6 +1,6 @@
 //! The disc record, its ranges and the numbers derived from them
-//! (document 01, "The disc record and its ranges"), and the reserved bytes after
-//! it (R-7 of document 02).
+//! (document 01, "The disc record and its ranges"), the reserved bytes after it
+//! (R-7 of document 02), and its two editions (R-12).
 
 use std::ops::Range;
 
@@ -10,8 +10,19 @@ use crate::Refusal;
 pub const DISC_RECORD: usize = 4;
 
 /// Block bytes 36 to 63 of zone 0: "the first 32 bytes are a disc record describing
-/// the disc, the other 28 bytes are 0, being reserved" (source document 001).
+/// the disc, the other 28 bytes are 0, being reserved" (source document 001). On
+/// E+ discs they belong to the record.
 pub const RESERVED: Range<usize> = DISC_RECORD + 32..DISC_RECORD + 60;
+
+/// Block bytes 40 to 43 of zone 0: "record bytes 36 to 39, the high half of the
+/// size" (R-12 of document 02).
+pub const SIZE_HIGH: Range<usize> = DISC_RECORD + 36..DISC_RECORD + 40;
+
+/// Block byte 46 of zone 0: "a high byte for nzones at record offset 42".
+pub const NZONES_HIGH: usize = DISC_RECORD + 42;
+
+/// Block bytes 48 to 51 of zone 0: "a format version of 4 bytes at 44".
+pub const VERSION: Range<usize> = DISC_RECORD + 44..DISC_RECORD + 48;
 
 /// Block bytes 5 to 7, 10 to 12, 16 to 19 and 24 to 35 of zone 0, the bytes of the
 /// 32-byte record that document 01 does not name: "Other fields are carried and not
@@ -26,12 +37,54 @@ pub const CARRIED: [Range<usize>; 4] = [
 /// Zone 0 has this many allocation bits fewer than every other zone.
 pub const ZONE_0_SHORTFALL: usize = 480;
 
-/// The most zones there can be: "Raise nzones from 127 to 255" (R-4 of document
-/// 02).
+/// The most zones of a disc that is not E+: "Raise nzones from 127 to 255" (R-4 of
+/// document 02).
 pub const MOST_ZONES: usize = 255;
 
-/// The bytes of the largest map: so many blocks of 1,024 bytes.
+/// The bytes of the largest map of such a disc: so many blocks of 1,024 bytes.
 pub const LARGEST_MAP: usize = MOST_ZONES * 1_024;
+
+/// "Take version 1 as E+ and 0 as what we have" (R-12 of document 02).
+#[derive(Clone, Copy, Debug, PartialEq, Eq)]
+pub enum Edition {
+    E,
+    EPlus,
+}
+
+impl Edition {
+    /// "others are refused with 2": nothing for them. All four bytes count.
+    pub fn of_version(version: u32) -> Option<Edition> {
+        match version {
+            0 => Some(Edition::E),
+            1 => Some(Edition::EPlus),
+            _ => None,
+        }
+    }
+
+    /// The version that stands for it.
+    pub fn version(self) -> u32 {
+        match self {
+            Edition::E => 0,
+            Edition::EPlus => 1,
+        }
+    }
+
+    /// "idlen from log2secsize+3 to 15", and "idlen up to 19 (version 1 only)".
+    pub fn longest_id(self) -> u8 {
+        match self {
+            Edition::E => 15,
+            Edition::EPlus => 19,
+        }
+    }
+
+    /// "For E+ nzones may be 1 to 65,535".
+    pub fn most_zones(self) -> usize {
+        match self {
+            Edition::E => MOST_ZONES,
+            Edition::EPlus => 65_535,
+        }
+    }
+}
 
 /// The fields of the disc record that are judged.
 #[derive(Clone, Copy, Debug, PartialEq, Eq)]
@@ -39,40 +92,73 @@ pub struct DiscRecord {
     pub log2secsize: u8,
     pub idlen: u8,
     pub log2bpmb: u8,
-    pub nzones: u8,
+    pub nzones: u16,
     pub zone_spare: u16,
     pub disc_size: u32,
+    /// The high half of the size, which no edition allows to be other than 0: one
+    /// by R-7 of document 02, one by R-12.
+    pub size_high: u32,
+    /// The format version.
+    pub version: u32,
 }
 
 impl DiscRecord {
-    /// Reads the record of a map of at least 64 bytes.
+    /// Reads the record of a map of at least 64 bytes. In version 0 the high byte
+    /// of nzones is a reserved byte, and nzones is the low one alone.
     pub fn read(map: &[u8]) -> DiscRecord {
         let record = &map[DISC_RECORD..DISC_RECORD + 60];
+        let two_bytes = |at: usize| u16::from_le_bytes([record[at], record[at + 1]]);
+        let four_bytes = |at: usize| two_bytes(at) as u32 | (two_bytes(at + 2) as u32) << 16;
+        let version = four_bytes(44);
+        let nzones_high = if version == 0 { 0 } else { record[42] };
         DiscRecord {
             log2secsize: record[0],
             idlen: record[4],
             log2bpmb: record[5],
-            nzones: record[9],
-            zone_spare: u16::from_le_bytes([record[10], record[11]]),
-            disc_size: u32::from_le_bytes([record[16], record[17], record[18], record[19]]),
+            nzones: u16::from_le_bytes([record[9], nzones_high]),
+            zone_spare: two_bytes(10),
+            disc_size: four_bytes(16),
+            size_high: four_bytes(36),
+            version,
         }
     }
 
-    /// Writes the judged fields into a map; the carried ones stay.
+    /// Whether each field by itself is inside its range for an edition. The high
+    /// half of the size is judged here for E+ alone, and among the reserved bytes
+    /// for version 0.
+    fn fields_in_range(&self, edition: Edition) -> bool {
+        (8..=10).contains(&self.log2secsize)
+            && (self.log2secsize + 3..=edition.longest_id()).contains(&self.idlen)
+            && (7..=12).contains(&self.log2bpmb)
+            && (1..=edition.most_zones()).contains(&(self.nzones as usize))
+            && self.zone_spare >= 32
+            && (edition == Edition::E || self.size_high == 0)
+    }
+
+    /// Writes the judged fields into a map; the carried ones stay, and in version 0
+    /// the byte where the high one of nzones would be.
     pub fn write(&self, map: &mut [u8]) {
         let record = &mut map[DISC_RECORD..DISC_RECORD + 60];
+        let [nzones, nzones_high] = self.nzones.to_le_bytes();
         record[0] = self.log2secsize;
         record[4] = self.idlen;
         record[5] = self.log2bpmb;
-        record[9] = self.nzones;
+        record[9] = nzones;
         record[10..12].copy_from_slice(&self.zone_spare.to_le_bytes());
         record[16..20].copy_from_slice(&self.disc_size.to_le_bytes());
+        record[36..40].copy_from_slice(&self.size_high.to_le_bytes());
+        record[44..48].copy_from_slice(&self.version.to_le_bytes());
+        if self.version == 0 {
+            assert_eq!(nzones_high, 0, "version 0 has a byte for nzones");
+        } else {
+            record[42] = nzones_high;
+        }
     }
 }
 
 /// The rule of R-7 of document 02, on a map of at least 64 bytes: "A map with any
 /// of block bytes 36 to 63 of zone 0 not 0 is refused with 2 from now on, judged
-/// after the other fields."
+/// after the other fields." R-12: it "then holds for version 0 only".
 pub fn reserved_bytes_are_0(map: &[u8]) -> bool {
     map[RESERVED].iter().all(|byte| *byte == 0)
 }
@@ -80,6 +166,7 @@ pub fn reserved_bytes_are_0(map: &[u8]) -> bool {
 /// An accepted disc record with the numbers derived from it.
 #[derive(Clone, Copy, Debug, PartialEq, Eq)]
 pub struct Geometry {
+    pub edition: Edition,
     /// S, the bytes of a sector and of a zone's block.
     pub sector_size: usize,
     /// B, the bytes of disc behind one map bit.
@@ -100,21 +187,8 @@ pub struct Geometry {
 impl Geometry {
     /// Judges a record; nothing where it is outside its ranges.
     pub fn accept(record: &DiscRecord) -> Option<Geometry> {
-        if !(8..=10).contains(&record.log2secsize) {
-            return None;
-        }
-        if !(record.log2secsize + 3..=15).contains(&record.idlen) {
-            return None;
-        }
-        if !(7..=12).contains(&record.log2bpmb) {
-            return None;
-        }
-        // "nzones 1 to 127", and R-4 of document 02: "Raise nzones from 127 to
-        // 255". A byte holds no more, so only 0 is left outside.
-        if record.nzones == 0 {
-            return None;
-        }
-        if record.zone_spare < 32 {
+        let edition = Edition::of_version(record.version)?;
+        if !record.fields_in_range(edition) {
             return None;
         }
 
@@ -151,6 +225,7 @@ impl Geometry {
         }
 
         Some(Geometry {
+            edition,
             sector_size: sector_size as usize,
             bytes_per_map_bit: bytes_per_map_bit as u64,
             cluster_bits: cluster_bits as usize,

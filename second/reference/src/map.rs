@@ -2,7 +2,7 @@
 //! fragments of each zone (document 01, "Bits, fragments, chains",
 //! "Zone check and cross check", "Numbered refusals").
 
-use crate::geometry::{reserved_bytes_are_0, DiscRecord, Geometry};
+use crate::geometry::{reserved_bytes_are_0, DiscRecord, Edition, Geometry};
 use crate::Refusal;
 
 /// Who has a fragment: nobody, if it is on its zone's chain, or an object.
@@ -165,20 +165,23 @@ pub fn check(map: &[u8]) -> Result<CheckedMap, Refusal> {
         Some(geometry) => geometry,
         None => return Err(Refusal::plain(2)),
     };
-    if !reserved_bytes_are_0(map) {
+    if geometry.edition == Edition::E && !reserved_bytes_are_0(map) {
         return Err(Refusal::plain(2));
     }
     check_blocks(geometry, map)
 }
 
 /// Whether nothing but the reserved bytes after the disc record is wrong with a
-/// map, so that only R-7 of document 02 refuses it.
+/// map, so that only R-7 of document 02 refuses it. The version's bytes are such
+/// bytes no longer: a record without version 0 is another matter.
 pub fn only_reserved_bytes_are_wrong(map: &[u8]) -> bool {
     if map.len() < 64 || reserved_bytes_are_0(map) {
         return false;
     }
     let geometry = Geometry::accept(&DiscRecord::read(map));
-    geometry.is_some_and(|geometry| check_blocks(geometry, map).is_ok())
+    geometry.is_some_and(|geometry| {
+        geometry.edition == Edition::E && check_blocks(geometry, map).is_ok()
+    })
 }
 
 /// Checks a map whose record was accepted, from its length on.

@@ -1,6 +1,7 @@
 //! The calls that leave the map alone: list, free, address and sweep
 //! (document 01, "The calls").
 
+use crate::geometry::Edition;
 use crate::map::{check, CheckedMap, Fragment};
 use crate::Refusal;
 
@@ -45,10 +46,15 @@ pub fn free(map: &[u8], list: &mut [u32]) -> Result<u64, Refusal> {
     hand_out(&checked, &checked.free(), list)
 }
 
-/// Turns an internal number and a position into a disc address.
+/// Turns an internal number and a position into a disc address. "Address refuses
+/// E+ with 8, because its internal numbers are another matter" (R-12 of document
+/// 02).
 pub fn address(map: &[u8], n: u32, position: u64) -> Result<u64, Refusal> {
     let checked = check(map)?;
     let geometry = &checked.geometry;
+    if geometry.edition == Edition::EPlus {
+        return Err(Refusal::plain(8));
+    }
     if n >= 1 << 24 {
         return Err(Refusal::plain(8));
     }

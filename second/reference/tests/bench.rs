@@ -198,6 +198,8 @@ fn floppy_of_800k() {
         nzones: 1,
         zone_spare: 1312,
         disc_size: 819_200,
+        size_high: 0,
+        version: 0,
     })
     .unwrap();
     assert_eq!(geometry.zone_bits, 6880);
@@ -221,6 +223,8 @@ fn zones_up_to_255() {
         nzones,
         zone_spare: 32,
         disc_size: 1_024,
+        size_high: 0,
+        version: 0,
     };
     assert_eq!(Geometry::accept(&record(8, 0)), None);
     for nzones in 1..=255 {

@@ -7,9 +7,10 @@ use reference::edit::{claim, place, release};
 use reference::generate::{
     any_map, arguments, disc_record, map_a, objects, play, valid_map, Memory, Rng, Sizes,
 };
-use reference::geometry::{Geometry, LARGEST_MAP};
+use reference::geometry::{DiscRecord, Edition, Geometry, LARGEST_MAP};
 use reference::map::{check, zone_check_by_columns, zone_check_by_words};
 use reference::read::{address, free, list, sweep_free, sweep_object};
+use reference::Refusal;
 
 const SIZES: Sizes = Sizes {
     map: 32_768,
@@ -47,8 +48,17 @@ fn generated_maps_are_accepted_and_cover_every_allocation_bit_once() {
             }
         };
         cover(&pairs(|entries| free(&map, entries).unwrap()));
-        for id in objects(&checked) {
-            cover(&pairs(|entries| list(&map, id, entries).unwrap()));
+        // A list checks the whole map anew, so that of many objects the first ones
+        // are listed.
+        for (index, id) in objects(&checked).into_iter().enumerate() {
+            if index < 50 {
+                cover(&pairs(|entries| list(&map, id, entries).unwrap()));
+                continue;
+            }
+            for fragment in checked.object(id).unwrap() {
+                let (disc_bit, length) = checked.pair(&fragment);
+                cover(&[disc_bit, length]);
+            }
         }
         assert!(times.iter().all(|count| *count == 1), "seed {seed}");
     }
@@ -271,7 +281,8 @@ fn an_edit_writes_only_the_zones_it_touches() {
 }
 
 /// The owner of each address by asking `address` for every byte of objects
-/// is too slow; at the edges of each piece it must agree with the sweeps.
+/// is too slow; at the edges of each piece it must agree with the sweeps. "Address
+/// refuses E+ with 8" (R-12 of document 02).
 #[test]
 fn sweeps_agree_with_the_lists() {
     for seed in 0..400 {
@@ -280,14 +291,19 @@ fn sweeps_agree_with_the_lists() {
         let geometry = checked.geometry;
         let bytes = geometry.bytes_per_map_bit;
         let window = 64u64;
+        let addressed = |address| match geometry.edition {
+            Edition::E => Ok(address),
+            Edition::EPlus => Err(Refusal::plain(8)),
+        };
         for id in objects(&checked).into_iter().filter(|id| *id >= 3).take(4) {
             let mut position = 0;
             for piece in checked.object(id).unwrap().iter().take(6) {
                 let first = geometry.disc_bit(piece.zone, piece.start) as u64 * bytes;
                 let length = piece.length as u64 * bytes;
-                assert_eq!(address(&map, id << 8, position), Ok(first));
+                assert_eq!(address(&map, id << 8, position), addressed(first));
                 position += length;
-                assert_eq!(address(&map, id << 8, position - 1), Ok(first + length - 1));
+                let last = addressed(first + length - 1);
+                assert_eq!(address(&map, id << 8, position - 1), last);
 
                 let from = (first + length - 10).min(geometry.disc_size - window);
                 let mut image = vec![1; window as usize];
@@ -323,14 +339,15 @@ fn any_map_is_judged_without_a_panic() {
 }
 
 /// "for record offset 9, the value 0" (R-4 of document 02): refused with 2 in
-/// every map that is not refused for being under 64 bytes.
+/// every map that is not refused for being under 64 bytes, if it has no high byte
+/// (R-12).
 #[test]
 fn no_zones_are_refused_with_2() {
     let mut refused = 0;
-    for seed in 0..6_000 {
+    for seed in 0..12_000 {
         let mut rng = Rng::new(seed);
         let map = any_map(&mut rng, 2_048);
-        if map.len() >= 64 && map[4 + 9] == 0 {
+        if map.len() >= 64 && DiscRecord::read(&map).nzones == 0 {
             assert_eq!(check(&map).unwrap_err().number, 2, "seed {seed}");
             refused += 1;
         }

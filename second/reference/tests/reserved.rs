@@ -1,12 +1,13 @@
 //! R-7 of document 02: "A map with any of block bytes 36 to 63 of zone 0 not 0 is
-//! refused with 2 from now on, judged after the other fields."
+//! refused with 2 from now on, judged after the other fields." By R-12 that "holds
+//! for version 0 only", and the version is in block bytes 48 to 51.
 
 use std::collections::BTreeSet;
 
 use reference::generate::{
-    any_map, disc_record, map_690, map_a, map_floppy, valid_map, with_bytes, Rng,
+    any_map, map_690, map_a, map_floppy, record_of, valid_map, with_bytes, Rng,
 };
-use reference::geometry::{DiscRecord, Geometry, CARRIED, LARGEST_MAP, RESERVED};
+use reference::geometry::{DiscRecord, Edition, Geometry, CARRIED, LARGEST_MAP, RESERVED, VERSION};
 use reference::map::{check, only_reserved_bytes_are_wrong};
 use reference::Refusal;
 
@@ -23,8 +24,10 @@ fn each_byte_is_refused_with_2_whatever_its_value() {
         for at in 36..64 {
             for byte in 1..=255 {
                 let dirty = with_bytes(&map, at, &[byte]);
-                assert_eq!(check(&dirty), Err(REFUSED), "byte {at} is {byte}");
-                assert!(only_reserved_bytes_are_wrong(&dirty));
+                let e_plus = (at, byte) == (VERSION.start, 1);
+                assert_eq!(check(&dirty).err(), (!e_plus).then_some(REFUSED));
+                let version = VERSION.contains(&at);
+                assert_eq!(only_reserved_bytes_are_wrong(&dirty), !version);
             }
         }
         assert!(check(&map).is_ok());
@@ -60,7 +63,7 @@ fn byte_64_is_not_judged_as_reserved() {
 #[test]
 fn judged_between_the_two_lengths() {
     for at in 36..64 {
-        let dirty = with_bytes(&map_a(), at, &[1]);
+        let dirty = with_bytes(&map_a(), at, &[2]);
         for length in 0..64 {
             assert_eq!(check(&dirty[..length]), Err(Refusal::plain(1)));
         }
@@ -77,8 +80,8 @@ fn judged_between_the_two_lengths() {
     }
 }
 
-/// Every reserved byte comes up as the only one that is not 0, and there are maps
-/// with several. Other maps have another fault beside it: a field out of range, a
+/// Every reserved byte but the version's comes up as the only one that is not 0,
+/// and there are maps with several. Other maps have another fault beside it: a field out of range, a
 /// wrong length, or one that is judged later.
 #[test]
 fn generator_reaches_dirty_records() {
@@ -87,7 +90,7 @@ fn generator_reaches_dirty_records() {
     let (mut fields, mut lengths, mut later) = (0, 0, 0);
     for seed in 0..12_000 {
         let map = any_map(&mut Rng::new(seed), 2_048);
-        if map.len() < 64 || map[RESERVED] == [0; 28] {
+        if map.len() < 64 || map[RESERVED] == [0; 28] || map[VERSION] != [0; 4] {
             continue;
         }
         assert_eq!(check(&map), Err(REFUSED), "seed {seed}");
@@ -104,7 +107,8 @@ fn generator_reaches_dirty_records() {
             Some(_) => later += 1,
         }
     }
-    assert_eq!(alone, RESERVED.collect());
+    let of_version_0 = RESERVED.filter(|at| !VERSION.contains(at));
+    assert_eq!(alone, of_version_0.collect());
     assert!(several > 50, "{several}");
     let beside = [fields, lengths, later];
     assert!(beside.iter().all(|count| *count > 10), "{beside:?}");
@@ -117,7 +121,7 @@ fn generator_fills_carried_bytes() {
     let mut filled = BTreeSet::new();
     for seed in 0..200 {
         let mut rng = Rng::new(seed);
-        let record = disc_record(&mut rng, LARGEST_MAP);
+        let record = record_of(&mut rng, LARGEST_MAP, Edition::E);
         let map = valid_map(&mut rng, &record);
         assert!(check(&map).is_ok());
         assert_eq!(map[RESERVED], [0; 28]);

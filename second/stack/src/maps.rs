@@ -1,9 +1,9 @@
 //! Calls that have the most to do in a zone: every fragment is as short as it
-//! can be.
+//! can be. E+ discs (R-12 of document 02) have longer ids and more zones.
 
 use reference::case::{Call, Case, CALLS};
 use reference::generate::build;
-use reference::geometry::{DiscRecord, Geometry};
+use reference::geometry::{DiscRecord, Edition, Geometry};
 use reference::map::Owner;
 
 /// The object that is listed, swept, released and placed.
@@ -66,20 +66,29 @@ pub struct Subject {
 }
 
 /// Records with as many short fragments to a zone as they can have: every
-/// block size and id length, one zone and several, and once as many zones as
-/// there can be (255, by R-4 of document 02).
+/// edition, block size and id length, one zone and several, once as many zones as
+/// version 0 can have (255, by R-4 of document 02), and 1,000 of an E+ disc.
 fn records() -> Vec<DiscRecord> {
     let mut records = Vec::new();
-    for log2secsize in 8..=10 {
-        for idlen in log2secsize + 3..=15 {
-            records.extend([1, 2, 5].map(|nzones| record(log2secsize, idlen, nzones)));
+    for edition in [Edition::E, Edition::EPlus] {
+        for log2secsize in 8..=10 {
+            for idlen in log2secsize + 3..=edition.longest_id() {
+                let record = |nzones| record(edition, log2secsize, idlen, nzones);
+                records.extend([1, 2, 5].map(record));
+            }
         }
     }
-    records.push(record(8, 15, 255));
+    records.push(record(Edition::E, 8, 15, 255));
+    records.push(record(Edition::EPlus, 8, 19, 1_000));
     records
 }
 
-fn record(log2secsize: u8, idlen: u8, nzones: u8) -> DiscRecord {
+/// As many zones as can be with 100 ids each, 524,200 in all: 2^19 are 524,288.
+fn most_ids() -> DiscRecord {
+    record(Edition::EPlus, 8, 19, 5_242)
+}
+
+fn record(edition: Edition, log2secsize: u8, idlen: u8, nzones: u16) -> DiscRecord {
     let zone_bits = (8 << log2secsize) - 32;
     DiscRecord {
         log2secsize,
@@ -89,6 +98,8 @@ fn record(log2secsize: u8, idlen: u8, nzones: u8) -> DiscRecord {
         nzones,
         zone_spare: 32,
         disc_size: (nzones as u32 * zone_bits - 480) << log2secsize,
+        size_high: 0,
+        version: edition.version(),
     }
 }
 
@@ -147,24 +158,36 @@ fn calls(geometry: &Geometry, map: &[u8]) -> Vec<Case> {
     cases
 }
 
-/// Every call, on every map.
+/// Every call, on every map. That of the most ids is large, and has one layout.
 pub fn subjects() -> Vec<Subject> {
     let mut subjects = Vec::new();
     for record in records() {
-        let geometry = Geometry::accept(&record).expect("a record inside its ranges");
-        for (who, layout) in LAYOUTS {
-            let zones: Vec<_> = (0..geometry.nzones)
-                .map(|index| zone(&geometry, index, layout))
-                .collect();
-            let on = format!(
-                "blocks of {} bytes, idlen {}, zones: {}; {who}",
-                geometry.sector_size, geometry.idlen, geometry.nzones
-            );
-            for case in calls(&geometry, &build(&record, &zones)) {
-                let on = on.clone();
-                subjects.push(Subject { on, case });
-            }
+        for layout in LAYOUTS {
+            subjects.extend(on_map(&record, layout));
         }
     }
+    subjects.extend(on_map(&most_ids(), LAYOUTS[2]));
     subjects
+}
+
+/// Every call on the map with a layout.
+fn on_map(record: &DiscRecord, (who, layout): (&str, Layout)) -> Vec<Subject> {
+    let geometry = Geometry::accept(record).expect("a record inside its ranges");
+    let zones: Vec<_> = (0..geometry.nzones)
+        .map(|index| zone(&geometry, index, layout))
+        .collect();
+    let edition = match geometry.edition {
+        Edition::E => "",
+        Edition::EPlus => "E+, ",
+    };
+    let on = format!(
+        "{edition}blocks of {} bytes, idlen {}, zones: {}; {who}",
+        geometry.sector_size, geometry.idlen, geometry.nzones
+    );
+    let cases = calls(&geometry, &build(record, &zones)).into_iter();
+    let subject = |case| Subject {
+        on: on.clone(),
+        case,
+    };
+    cases.map(subject).collect()
 }

@@ -1,5 +1,5 @@
 //! The disc record: its fields, its ranges and what follows from them
-//! (document 01, "The disc record and its ranges"; R-7 of document 02).
+//! (document 01, "The disc record and its ranges"; R-7 and R-12 of document 02).
 
 use crate::Refusal;
 
@@ -25,33 +25,29 @@ impl Record {
     /// (refusals 1 and 2).
     pub fn read(map: &[u8]) -> Result<Record, Refusal> {
         let head: &[u8; 64] = map.first_chunk().ok_or((1, 0))?;
-        let record = Record::accept(head).ok_or((2, 0))?;
-        if dirty(head) {
-            return Err((2, 0));
-        }
+        let limits = Limits::of(head).ok_or((2, 0))?;
+        let record = Record::accept(head, &limits).ok_or((2, 0))?;
         if map.len() != record.nzones * record.sector_size {
             return Err((1, 0));
         }
         Ok(record)
     }
 
-    /// The record in zone 0's first 64 bytes, if it is inside its ranges. For
-    /// nzones that is 1 to 255, whatever the sector size: document 01 says "1 to
-    /// 127", and R-4 of document 02 "Raise nzones from 127 to 255".
-    fn accept(head: &[u8; 64]) -> Option<Record> {
-        let (log2secsize, idlen, log2bpmb, nzones) = (head[4], head[8], head[9], head[13]);
+    /// The record in zone 0's first 64 bytes, if it is inside its ranges.
+    fn accept(head: &[u8; 64], limits: &Limits) -> Option<Record> {
+        let (log2secsize, idlen, log2bpmb) = (head[4], head[8], head[9]);
         let zone_spare = u16::from_le_bytes([head[14], head[15]]) as usize;
         let disc_size = u32::from_le_bytes([head[20], head[21], head[22], head[23]]) as u64;
         let in_range = (8..=10).contains(&log2secsize)
-            && (log2secsize + 3..=15).contains(&idlen)
+            && (log2secsize + 3..=limits.idlen).contains(&idlen)
             && (7..=12).contains(&log2bpmb)
-            && (1..=255).contains(&nzones)
+            && limits.nzones >= 1
             && zone_spare >= 32;
         if !in_range {
             return None;
         }
 
-        let (idlen, nzones) = (idlen as usize, nzones as usize);
+        let (idlen, nzones) = (idlen as usize, limits.nzones);
         let sector_size = 1usize << log2secsize;
         let cluster_bits = 1usize << log2secsize.saturating_sub(log2bpmb);
         let zone_bits = (8 * sector_size).checked_sub(zone_spare)?;
@@ -62,7 +58,7 @@ impl Record {
             && ids <= 1 << idlen
             && disc_size > 0
             && disc_size % sector_size as u64 == 0
-            && disc_size <= ((nzones * zone_bits - 480) << log2bpmb) as u64;
+            && disc_size <= ((nzones * zone_bits - 480) as u64) << log2bpmb;
         fits.then_some(Record {
             sector_size,
             log2bpmb: log2bpmb as u32,
@@ -109,10 +105,42 @@ impl Record {
     }
 }
 
+/// What the format version decides.
+struct Limits {
+    /// The longest id.
+    idlen: u8,
+    /// The number of zones, which no field can give above its range: 255 in a byte
+    /// (R-4 of document 02: "Raise nzones from 127 to 255"), 65,535 in two (R-12).
+    /// The sector size does not matter to it.
+    nzones: usize,
+}
+
+impl Limits {
+    /// By zone 0's first 64 bytes. R-12 counts the record's bytes, from byte 4 on:
+    /// "a high byte for nzones at record offset 42, a format version of 4 bytes at
+    /// 44", and in E+ "record bytes 36 to 39, the high half of the size, must be
+    /// 0". Nothing for such a size, for rubbish, or for an unknown version.
+    fn of(head: &[u8; 64]) -> Option<Limits> {
+        let (low, high) = (head[13], head[46]);
+        match (&head[48..52], &head[40..44]) {
+            ([0, 0, 0, 0], _) if !dirty(head) => Some(Limits {
+                idlen: 15,
+                nzones: low as usize,
+            }),
+            ([1, 0, 0, 0], [0, 0, 0, 0]) => Some(Limits {
+                idlen: 19,
+                nzones: low as usize + 256 * high as usize,
+            }),
+            _ => None,
+        }
+    }
+}
+
 /// Whether there is rubbish after the record. It has 32 bytes, from byte 4 on, so
 /// that 28 of the 64 are left, and R-7 of document 02 says: "Source document 001
 /// says the 28 bytes after the 32-byte record are 0", "A map with any of block
-/// bytes 36 to 63 of zone 0 not 0 is refused with 2".
+/// bytes 36 to 63 of zone 0 not 0 is refused with 2". By R-12 that "holds for
+/// version 0 only".
 fn dirty(head: &[u8; 64]) -> bool {
     !head.ends_with(&[0; 28])
 }

@@ -2,9 +2,10 @@
 //! with stretches at odd places.
 
 use reference::generate::{
-    any_map, disc_record, map_690, map_a, map_b, map_floppy, valid_map, with_bytes, Rng,
+    any_map, disc_record, map_690, map_a, map_b, map_floppy, map_of_zones, record_of_zones,
+    valid_map, with_bytes, Rng,
 };
-use reference::geometry::{DiscRecord, LARGEST_MAP};
+use reference::geometry::{DiscRecord, Edition, LARGEST_MAP};
 use reference::read;
 
 type Sweep = fn(&[u8], &mut [u8], u64, u8) -> Result<u64, (u32, u32)>;
@@ -99,18 +100,62 @@ fn maps_of_document_01() {
 
 /// "A map with any of block bytes 36 to 63 of zone 0 not 0 is refused with 2" (R-7
 /// of document 02): each of them alone. Byte 35 is carried, and byte 64 has
-/// allocation bits.
+/// allocation bits. A 1 in byte 48 makes an E+ disc of it.
 #[test]
 fn dirty_records() {
     let number = |map: &[u8]| agree(0, map, &[0; 64], 0, 0xFF);
     for map in [map_b(), map_690(), map_floppy()] {
         for byte in 1..=255 {
             for at in 36..64 {
-                assert_eq!(number(&with_bytes(&map, at, &[byte])), 2, "byte {at}");
+                let expected = if (at, byte) == (48, 1) { 0 } else { 2 };
+                assert_eq!(number(&with_bytes(&map, at, &[byte])), expected);
             }
             assert_eq!(number(&with_bytes(&map, 35, &[byte])), 0);
             assert_ne!(number(&with_bytes(&map, 64, &[byte])), 2);
         }
+    }
+}
+
+/// R-12 of document 02, on maps of E+ discs: each byte of the record with each
+/// value, the map's length and checks as they were.
+#[test]
+fn e_plus_records() {
+    let record = record_of_zones(8, 2, Edition::EPlus);
+    for map in [map_of_zones(&record), with_bytes(&map_b(), 48, &[1])] {
+        assert_eq!(agree(0, &map, &[0; 64], 0, 0xFF), 0);
+        let mut answers = [0; 17];
+        for at in 4..64 {
+            for byte in 0..=255 {
+                let changed = with_bytes(&map, at, &[byte]);
+                let number = agree(0, &changed, &[0; 64], 0, 0xFF);
+                answers[number] += 1;
+                // The size's high half, and what is carried.
+                if (40..44).contains(&at) {
+                    assert_eq!(number, if byte == 0 { 0 } else { 2 }, "byte {at}");
+                }
+                if (36..40).contains(&at) || at == 47 || at > 51 {
+                    assert_eq!(number, 0, "byte {at}");
+                }
+            }
+        }
+        assert!(answers[1] > 5 && answers[2] > 1_000, "{answers:?}");
+    }
+}
+
+/// "For E+ nzones may be 1 to 65,535 under the same P*nzones rule": more than 255
+/// zones, to both sides of a border, and a fault in zone 256.
+#[test]
+fn e_plus_of_many_zones() {
+    for nzones in [256, 257, 300] {
+        let mut map = map_of_zones(&record_of_zones(8, nzones, Edition::EPlus));
+        let border = (nzones as u64 - 1) * 2_016 * 1_024 - 480 * 1_024;
+        for first in [0, border - 500, border + 20_000] {
+            assert_eq!(agree(0, &map, &[0; 1_000], first, 0xFF), 0);
+        }
+        assert_eq!(agree(0, &map[256..], &[], 0, 0), 2);
+        assert_eq!(agree(0, &map[..256], &[], 0, 0), 1);
+        *map.last_mut().expect("a byte") ^= 1;
+        assert_eq!(agree(0, &map, &[0; 1_000], 0, 0xFF), 3);
     }
 }
 

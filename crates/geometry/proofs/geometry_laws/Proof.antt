@@ -1,10 +1,10 @@
 -- The laws, each from the file that proves it.
 use mathlib.Core.Path.{refl}
 use Rattle.geometry.proofs.Rules.{test-is-rules}
-use Rattle.geometry.proofs.Numbers.{accepted, cluster-parts, cluster-else, floppy, divisor, drives}
+use Rattle.geometry.proofs.Numbers.{accepted, cluster-parts, cluster-else, floppy, divisor, drives, most-zones, plus-discs}
 use Rattle.geometry.proofs.DiscBits.{block-of-disc, disc-of-block, zone-of-disc, on-the-map, zone-starts, zone-ends}
 use Rattle.geometry.proofs.Starts.{start-by-ids, start-in-range, object-690}
-use Rattle.geometry.proofs.RecordAnswers.{dirty}
+use Rattle.geometry.proofs.Editions.{dirty, version-at, zones-at, version-0, accepted-0, other-version, high-size}
 use Rattle.geometry.proofs.geometry_laws.Statement.{statement}
 use Rattle.geometry.proofs.geometry_laws.Tie as tie
 
@@ -29,6 +29,14 @@ returns c =
       object-690 = object-690;
       drives = drives;
       dirty = dirty;
+      version-at = version-at;
+      zones-at = zones-at;
+      version-0 = version-0;
+      accepted-0 = accepted-0;
+      other-version = other-version;
+      most-zones = most-zones;
+      plus-discs = plus-discs;
+      high-size = high-size;
     }
 
 pub geometry-laws-spec : {M : Type 1} → statement M

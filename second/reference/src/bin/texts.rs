@@ -4,9 +4,10 @@
 //! map's other bytes are 0.
 
 use reference::generate::{
-    build, map_690, map_a, map_of_zones, repair_cross_checks, repair_zone_checks, with_bytes,
+    as_e_plus, build, map_690, map_a, map_of_zones, record_of_zones, repair_cross_checks,
+    repair_zone_checks, with_bytes,
 };
-use reference::geometry::DiscRecord;
+use reference::geometry::{DiscRecord, Edition, SIZE_HIGH};
 use reference::lines::{lines, LONGEST_MAP};
 use reference::map::Owner;
 
@@ -18,7 +19,7 @@ fn free(length: usize) -> (Owner, usize) {
     (Owner::Free, length)
 }
 
-fn plain(nzones: u8, disc_bits: u32) -> DiscRecord {
+fn plain(nzones: u16, disc_bits: u32) -> DiscRecord {
     DiscRecord {
         log2secsize: 8,
         idlen: 11,
@@ -26,6 +27,8 @@ fn plain(nzones: u8, disc_bits: u32) -> DiscRecord {
         nzones,
         zone_spare: 32,
         disc_size: disc_bits * 512,
+        size_high: 0,
+        version: 0,
     }
 }
 
@@ -68,12 +71,45 @@ fn long_text() -> Vec<u8> {
     build(&plain(4, 4 * 2_016 - 480), &zones)
 }
 
-/// 255 zones, the most there can be (R-4 of document 02), with at least two
-/// lines for each: only 256-byte blocks are short enough for the program.
+/// 255 zones, the most that version 0 can have (R-4 of document 02), with at least
+/// two lines for each: only 256-byte blocks are short enough for the program.
 fn most_zones() -> Vec<u8> {
-    let map = map_of_zones(8, 255);
+    let map = map_of_zones(&record_of_zones(8, 255, Edition::E));
     assert_eq!(lines(&map).lines().count(), 2 * 255 + 1);
     map
+}
+
+/// As many bytes as the program takes: 256 zones of an E+ disc (R-12 of document
+/// 02). The low byte of nzones is 0.
+fn longest_e_plus() -> Vec<u8> {
+    let map = map_of_zones(&record_of_zones(8, 256, Edition::EPlus));
+    assert_eq!(map.len(), LONGEST_MAP);
+    assert_eq!(lines(&map).lines().count(), 2 * 256 + 1);
+    map
+}
+
+/// The first 64 bytes of a map of 257 zones.
+fn head_of_257_zones() -> Vec<u8> {
+    let mut head = vec![0; 64];
+    record_of_zones(8, 257, Edition::EPlus).write(&mut head);
+    head
+}
+
+/// An E+ disc of two zones of 1,024 bytes, with ids of 19 bits up to the last, 815,
+/// rubbish in what E+ carries, and a disc that ends 1,000 map bits before its map.
+fn large_blocks() -> Vec<u8> {
+    let mut record = record_of_zones(10, 2, Edition::EPlus);
+    record.disc_size -= 1_000 * 1_024;
+    let zones = [
+        vec![object(815, 20), free(7_000), object(407, 660)],
+        vec![
+            object(2, 21),
+            object(408, 5_000),
+            free(2_139),
+            object(1, 1_000),
+        ],
+    ];
+    with_bytes(&build(&record, &zones), 52, b"E+ carries..")
 }
 
 /// A map: the stored bytes, its length, and how its text begins.
@@ -116,10 +152,27 @@ fn stored_maps() -> [Stored; 17] {
     ]
 }
 
+/// Those of E+ discs (R-12 of document 02), after the others.
+fn e_plus_maps() -> [Stored; 6] {
+    let size_high = with_bytes(&as_e_plus(&map_a()), SIZE_HIGH.start, &[0x01]);
+    let text = "815 0 20\nfree 20 7000\n407 7020 660\n2 7680 21\n";
+    let longest = "7 0 20\nfree 20 1516\n107 1536 21\n";
+    [
+        (large_blocks(), 2_048, text),
+        // Version 256.
+        (with_bytes(&map_a(), 49, &[0x01]), 256, "refused 2 0\n"),
+        (size_high, 256, "refused 2 0\n"),
+        (longest_e_plus(), LONGEST_MAP, longest),
+        // Too long, whatever follows the record.
+        (head_of_257_zones(), LONGEST_MAP + 256, "refused 1 0\n"),
+        (as_e_plus(&map_a()), 256, "2 0 12\nfree 12 1524\n"),
+    ]
+}
+
 fn main() {
     let out = std::env::args().nth(1).expect("OUTDIR");
     let (mut stdin, mut stdout) = (Vec::new(), String::new());
-    for (stored, length, begins) in &stored_maps() {
+    for (stored, length, begins) in stored_maps().iter().chain(&e_plus_maps()) {
         for number in [stored.len(), *length] {
             stdin.extend_from_slice(&(number as u32).to_le_bytes()[..3]);
         }

@@ -302,7 +302,7 @@ fn object_2_in_the_middle_zone(cases: &mut Cases) {
         zones[0] = vec![free(1_536)];
         zones[place][0].1 -= 12;
         zones[place].insert(0, object(2, 12));
-        let map = build(&plain(nzones as u8), &zones);
+        let map = build(&plain(nzones as u16), &zones);
         cases.check(&map).told(7, middle);
     }
 }

@@ -1,6 +1,6 @@
 //! Writes the stored cases: `cases OUTDIR` makes OUTDIR/stdin (the cases) and
 //! OUTDIR/stdout (a line for each). The set is fixed: written-out cases first,
-//! a module for each part of document 01 and for of
+//! a module for each part of document 01 and for of
 //! document 02, then some of a fixed range of seeds.
 //! `cases` alone lists the groups with the lines of OUTDIR/stdout they make.
 
@@ -9,6 +9,7 @@ mod calls;
 mod check;
 mod claim;
 mod closing;
+mod editions;
 mod listing;
 mod maps;
 mod order;
@@ -32,17 +33,17 @@ use reference::generate::Sizes;
 use reference::geometry::LARGEST_MAP;
 
 /// The largest map, list and stretch of a stored case. The map is the largest
-/// there is.
+/// that is not of an E+ disc.
 const SIZES: Sizes = Sizes {
     map: LARGEST_MAP,
     list: 1_024,
     image: 16_384,
 };
 /// All cases together stay below this many bytes, and are at most so many.
-const MOST_BYTES: usize = 3_000_000;
-const MOST_CASES: usize = 1_100;
+const MOST_BYTES: usize = 5_200_000;
+const MOST_CASES: usize = 1_250;
 
-const MODULES: [(&str, &[Group]); 14] = [
+const MODULES: [(&str, &[Group]); 15] = [
     ("bench", bench::GROUPS),
     ("record", record::GROUPS),
     ("check", check::GROUPS),
@@ -57,6 +58,7 @@ const MODULES: [(&str, &[Group]); 14] = [
     ("stretches", stretches::GROUPS),
     ("zones", zones::GROUPS),
     ("reserved", reserved::GROUPS),
+    ("editions", editions::GROUPS),
 ];
 
 /// A group's place among the cases: its module and function, its first case,

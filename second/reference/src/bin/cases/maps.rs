@@ -15,7 +15,7 @@ pub fn free(length: usize) -> (Owner, usize) {
 
 /// The record of map A with more zones: Z 2016, k 1, m 12, P 168, and 1,024
 /// bytes of disc behind a map bit. The disc ends where the map does.
-pub fn plain(nzones: u8) -> DiscRecord {
+pub fn plain(nzones: u16) -> DiscRecord {
     whole_disc(DiscRecord {
         log2secsize: 8,
         idlen: 11,
@@ -23,11 +23,13 @@ pub fn plain(nzones: u8) -> DiscRecord {
         nzones,
         zone_spare: 32,
         disc_size: 0,
+        size_high: 0,
+        version: 0,
     })
 }
 
 /// k 2 and m 14 for an idlen of 12: Z 2016, P 155, 128 bytes a map bit.
-pub fn clusters_of_two(nzones: u8) -> DiscRecord {
+pub fn clusters_of_two(nzones: u16) -> DiscRecord {
     whole_disc(DiscRecord {
         log2secsize: 8,
         idlen: 12,
@@ -37,7 +39,7 @@ pub fn clusters_of_two(nzones: u8) -> DiscRecord {
 }
 
 /// k 4 and m 16 for an idlen of 12: Z 4064, P 312, 128 bytes a map bit.
-pub fn clusters_of_four(nzones: u8) -> DiscRecord {
+pub fn clusters_of_four(nzones: u16) -> DiscRecord {
     whole_disc(DiscRecord {
         log2secsize: 9,
         idlen: 12,
@@ -48,7 +50,7 @@ pub fn clusters_of_four(nzones: u8) -> DiscRecord {
 
 /// k 8 and m 16 for an idlen of 13, so that P is Z div 14: Z 8160, P 582, 128
 /// bytes a map bit.
-pub fn clusters_of_eight(nzones: u8) -> DiscRecord {
+pub fn clusters_of_eight(nzones: u16) -> DiscRecord {
     whole_disc(DiscRecord {
         log2secsize: 10,
         idlen: 13,
@@ -59,7 +61,7 @@ pub fn clusters_of_eight(nzones: u8) -> DiscRecord {
 
 /// Sectors of 1,024 bytes with a k of 1, and m 16 for an idlen of 15: Z 8160,
 /// P 510, 1,024 bytes a map bit.
-pub fn large_sectors(nzones: u8) -> DiscRecord {
+pub fn large_sectors(nzones: u16) -> DiscRecord {
     whole_disc(DiscRecord {
         log2secsize: 10,
         idlen: 15,
@@ -69,15 +71,25 @@ pub fn large_sectors(nzones: u8) -> DiscRecord {
 
 /// Room for 255 zones of 256-byte sectors, with m 16 for an idlen of 15: Z 2016,
 /// k 1, P 126, 1,024 bytes a map bit.
-pub fn many_zones(nzones: u8) -> DiscRecord {
+pub fn many_zones(nzones: u16) -> DiscRecord {
     whole_disc(DiscRecord {
         idlen: 15,
         ..plain(nzones)
     })
 }
 
+/// An E+ disc (R-12 of document 02) with m 20 for an idlen of 19: Z 2016, k 1, P
+/// 100, 1,024 bytes a map bit.
+pub fn e_plus(nzones: u16) -> DiscRecord {
+    DiscRecord {
+        idlen: 19,
+        version: 1,
+        ..plain(nzones)
+    }
+}
+
 /// Z no multiple of 8: the zone ends after bit 2 of its block's byte 255.
-pub fn odd_zone_end(nzones: u8) -> DiscRecord {
+pub fn odd_zone_end(nzones: u16) -> DiscRecord {
     whole_disc(DiscRecord {
         zone_spare: 37,
         ..plain(nzones)
@@ -96,6 +108,24 @@ pub fn disc_of(map_bits: u32, record: DiscRecord) -> DiscRecord {
         disc_size: map_bits << record.log2bpmb,
         ..record
     }
+}
+
+/// Zones that are full, each of an object of its own, but for object 2. No two
+/// ids are equal, so that a block taken for another one shows, and an object's
+/// start zone is its zone.
+pub fn full_zones(record: &DiscRecord) -> Vec<Vec<(Owner, usize)>> {
+    let geometry = Geometry::accept(record).expect("a record inside its ranges");
+    let zone = |zone: usize| {
+        let own = (geometry.ids_per_zone * zone + 7) as u32;
+        let bits = geometry.end_block_bit() - geometry.first_block_bit(zone);
+        let m = geometry.shortest_fragment;
+        if zone == geometry.middle_zone() {
+            vec![object(2, m), object(own, bits - m)]
+        } else {
+            vec![object(own, bits)]
+        }
+    };
+    (0..geometry.nzones).map(zone).collect()
 }
 
 /// The first disc bit of a zone of 2016 allocation bits.

@@ -25,7 +25,7 @@ groups![
 
 /// A map of 64 bytes is too short for every record, and the record is judged
 /// first: 1 where it is inside its ranges, 2 where it is not.
-fn head(cases: &mut Cases, record: DiscRecord, number: u32) {
+pub fn head(cases: &mut Cases, record: DiscRecord, number: u32) {
     let mut map = vec![0; 64];
     record.write(&mut map);
     cases.check(&map).gives(number);
@@ -166,6 +166,7 @@ fn disc_size_above_two_to_the_31(cases: &mut Cases) {
             nzones: 254,
             zone_spare: 8_192 - 2_079,
             disc_size,
+            ..plain(1)
         };
         head(cases, record, number);
     }

@@ -9,7 +9,7 @@
 
 use reference::generate::{build, repair_zone_checks};
 use reference::geometry::DiscRecord;
-use reference::map::{set_bit, set_number, Owner};
+use reference::map::{set_bit, set_number};
 
 use crate::calls::{groups, Cases};
 use crate::maps::*;
@@ -35,21 +35,9 @@ groups![
     largest_sectors,
 ];
 
-/// The id of the object that fills a zone: another in each of them, so that a
-/// block taken for another one shows. Its start zone is the zone.
+/// The id of the object that fills a zone in `full_zones`.
 fn own(zone: usize) -> u32 {
     126 * zone as u32 + 7
-}
-
-/// Zones that are full, each of its own object, but for object 2.
-fn full_zones(nzones: usize) -> Vec<Vec<(Owner, usize)>> {
-    let mut zones: Vec<_> = (0..nzones)
-        .map(|zone| vec![object(own(zone), 2_016)])
-        .collect();
-    zones[0] = vec![object(own(0), 1_536)];
-    let middle = nzones / 2;
-    zones[middle] = vec![object(2, 16), object(own(middle), 2_000)];
-    zones
 }
 
 /// An object whose start zone is 200: 25,300 div 126.
@@ -60,7 +48,7 @@ const WRAPPING: u32 = 25_300;
 /// and 100 bits. No other bit is free.
 fn wrapping() -> Vec<u8> {
     let piece = |length| object(WRAPPING, length);
-    let mut zones = full_zones(255);
+    let mut zones = full_zones(&many_zones(255));
     zones[0] = vec![object(own(0), 1_500), piece(36)];
     zones[127] = vec![object(2, 16), piece(24), free(60), object(own(127), 1_916)];
     zones[128] = vec![object(own(128), 1_916), piece(28), free(72)];
@@ -95,7 +83,7 @@ fn of_wrapping() -> [u32; 14] {
 /// 130 zones: holes of 50 bits at the end of zone 0, 70 at the end of zone 127,
 /// 100 at the start and 30 at the end of zone 128, 40 at the start of zone 129.
 fn half_as_long() -> Vec<u8> {
-    let mut zones = full_zones(130);
+    let mut zones = full_zones(&many_zones(130));
     zones[0] = vec![object(own(0), 1_486), free(50)];
     zones[127] = vec![object(own(127), 1_946), free(70)];
     zones[128] = vec![free(100), object(own(128), 1_886), free(30)];
@@ -307,7 +295,7 @@ fn claims(cases: &mut Cases) {
 /// starts too.
 fn claim_of_a_high_id(cases: &mut Cases) {
     let mut ids = 3..=16_130;
-    let mut zones = full_zones(130);
+    let mut zones = full_zones(&many_zones(130));
     for (zone, parts) in zones.iter_mut().enumerate().take(129) {
         let fragments = if zone == 0 { 96 } else { 126 };
         parts.truncate(usize::from(zone == 65));
@@ -322,7 +310,7 @@ fn claim_of_a_high_id(cases: &mut Cases) {
 
 /// The record with 128 bytes a map bit, and so a k of 2, and a disc that ends
 /// after so many map bits.
-fn short_map_bits(nzones: u8, map_bits: u32) -> DiscRecord {
+fn short_map_bits(nzones: u16, map_bits: u32) -> DiscRecord {
     let record = DiscRecord {
         log2bpmb: 7,
         ..many_zones(nzones)
@@ -334,7 +322,7 @@ fn short_map_bits(nzones: u8, map_bits: u32) -> DiscRecord {
 /// 127 over the border into one in zone 128, with free bits between.
 fn sweeps_over_a_border(cases: &mut Cases) {
     let id = 128 * 126 + 1;
-    let mut zones = full_zones(130);
+    let mut zones = full_zones(&many_zones(130));
     zones[127] = vec![object(own(127), 1_960), object(id, 20), free(36)];
     zones[128] = vec![free(16), object(id, 24), object(own(128), 1_976)];
     let map = build(&short_map_bits(130, first(130)), &zones);
@@ -352,7 +340,7 @@ fn sweeps_over_a_border(cases: &mut Cases) {
 /// "each address of that class within the stretch", up to the disc's end, which
 /// is 30 map bits before the end of zone 254.
 fn sweep_to_the_disc_end(cases: &mut Cases) {
-    let mut zones = full_zones(255);
+    let mut zones = full_zones(&many_zones(255));
     zones[254] = vec![
         object(own(254), 1_900),
         object(WRAPPING, 56),

@@ -1,0 +1,135 @@
+//! E+ maps (R-12 of document 02) of more zones than the generator makes, with a
+//! few calls on each: what is given out is given back, so that every byte must be
+//! as before.
+
+use reference::case::{Call, Case};
+use reference::generate::{map_of_zones, record_of_zones, repair_zone_checks, with_bytes};
+use reference::geometry::{DiscRecord, Edition, DISC_RECORD, NZONES_HIGH};
+use reference::map::{check, CheckedMap, Fragment};
+
+/// How many zones have a piece of the object that is placed: an odd number.
+const PIECES: usize = 41;
+
+/// The bytes of image that are swept.
+const WINDOW: usize = 65_536;
+
+/// A map's name, and the cases on it.
+pub type Named = (String, Vec<Case>);
+
+/// "For E+ nzones may be 1 to 65,535 under the same P*nzones rule": the shortest
+/// zones there can be have 25 ids each, so that 20,971 of them have at most 2^19.
+fn most_zones() -> DiscRecord {
+    DiscRecord {
+        log2bpmb: 8,
+        nzones: 20_971,
+        zone_spare: 2_048 - 500,
+        disc_size: (20_971 * 500 - 480) * 256,
+        ..record_of_zones(8, 1, Edition::EPlus)
+    }
+}
+
+/// All maps in turn.
+pub fn maps() -> Vec<Named> {
+    let thousand = map_of_zones(&record_of_zones(8, 1_000, Edition::EPlus));
+    let most = map_of_zones(&most_zones());
+    let one_more = Case::new(Call::Check, &with_a_zone_more(&most));
+    assert_eq!(one_more.run().number, 2);
+    vec![
+        ("the E+ map of 1,000 zones".to_string(), cases(&thousand)),
+        ("the E+ map of 20,971 zones".to_string(), cases(&most)),
+        ("the E+ map of 20,972 zones".to_string(), vec![one_more]),
+    ]
+}
+
+/// The map with its last block again, and a record that tells of it.
+fn with_a_zone_more(map: &[u8]) -> Vec<u8> {
+    let [low, high] = (DiscRecord::read(map).nzones + 1).to_le_bytes();
+    let mut longer = with_bytes(map, DISC_RECORD + 9, &[low]);
+    longer[NZONES_HIGH] = high;
+    longer.extend_from_within(map.len() - 256..);
+    repair_zone_checks(&mut longer, 256);
+    longer
+}
+
+/// The calls on one map.
+fn cases(map: &[u8]) -> Vec<Case> {
+    let checked = check(map).expect("a valid map");
+    let ids = checked.geometry.ids() as u32;
+    let mut cases = vec![Case::new(Call::Check, map)];
+    let mut free = Case::new(Call::Free, map);
+    free.list = vec![0; 2 * checked.geometry.nzones];
+    cases.push(free);
+    // The second has the low 16 bits of one that is there, the last is too high.
+    let last = ids - checked.geometry.ids_per_zone as u32 + 7;
+    cases.extend([last, last ^ 1 << 16, ids].map(|id| numbered(Call::List, map, id, 2)));
+    cases.extend([0x0007_00, last << 8, 1 << 24].map(|n| numbered(Call::Address, map, n, 0)));
+    released_and_placed(&mut cases, map, last);
+    placed_and_released(&mut cases, &checked, map, ids / 3 * 2);
+    claimed_and_released(&mut cases, map);
+    cases
+}
+
+fn numbered(call: Call, map: &[u8], number: u32, entries: usize) -> Case {
+    let mut case = Case::new(call, map);
+    case.number = number;
+    case.list = vec![0; entries];
+    case
+}
+
+/// The object of one fragment goes and comes back.
+fn released_and_placed(cases: &mut Vec<Case>, map: &[u8], id: u32) {
+    let release = numbered(Call::Release, map, id, 2);
+    let released = release.run();
+    let mut place = numbered(Call::Place, &released.map, id, 0);
+    place.list = released.list;
+    assert!(place.run().map == map);
+    cases.extend([release, place]);
+}
+
+/// An absent object gets pieces all over the disc, is read, swept and released.
+fn placed_and_released(cases: &mut Vec<Case>, checked: &CheckedMap, map: &[u8], id: u32) {
+    let mut place = numbered(Call::Place, map, id, 0);
+    place.list = pieces(checked, id);
+    let placed = place.run();
+    assert_eq!(placed.number, 0);
+    let entries = place.list.len();
+    cases.push(numbered(Call::List, &placed.map, id, entries));
+    for call in [Call::SweepObject, Call::SweepFree] {
+        let mut sweep = numbered(call, &placed.map, id, 0);
+        let first = place.list[0] as u64 * checked.geometry.bytes_per_map_bit;
+        sweep.wide = first - WINDOW as u64 / 2;
+        sweep.fill = 0xFF;
+        sweep.image = vec![0; WINDOW];
+        cases.push(sweep);
+    }
+    let release = numbered(Call::Release, &placed.map, id, entries);
+    assert!(release.run().map == map);
+    cases.extend([place, release]);
+}
+
+/// The starts of free fragments in `PIECES` zones, in the object order of an id.
+fn pieces(checked: &CheckedMap, id: u32) -> Vec<u32> {
+    let m = checked.geometry.shortest_fragment;
+    let mut holes: Vec<Fragment> = checked.free();
+    holes.retain(|hole| hole.length >= 2 * m);
+    let step = holes.len() / PIECES;
+    let start = checked.geometry.start_zone(id).expect("an id in range");
+    let mut chosen: Vec<_> = holes.into_iter().step_by(step).take(PIECES).collect();
+    chosen.sort_by_key(|hole| (hole.zone < start, hole.zone));
+    let pair = |hole: &Fragment| [checked.pair(hole).0, m as u32];
+    chosen.iter().flat_map(pair).collect()
+}
+
+/// The lowest id is claimed, in the first hole there is, and released.
+fn claimed_and_released(cases: &mut Vec<Case>, map: &[u8]) {
+    let mut claim = Case::new(Call::Claim, map);
+    claim.wide = 1;
+    let claimed = claim.run();
+    assert_eq!(claimed.number, 0);
+    let release = numbered(Call::Release, &claimed.map, claimed.values[0] as u32, 2);
+    assert!(release.run().map == map);
+    claim.wide = u64::MAX;
+    let too_large = claim.clone();
+    claim.wide = 1;
+    cases.extend([claim, too_large, release]);
+}
