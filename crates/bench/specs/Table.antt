@@ -216,11 +216,12 @@ table =
     ∷ row (check (dirtyA ++ 0 ∷ [])) (2 ∷ 0 ∷ [])
     ∷ row (recordA ((8, 0x10) ∷ (36, 0x01) ∷ [])) (2 ∷ 0 ∷ [])
     ∷ row (after dirtyA (call.place 5 (12 ∷ 20 ∷ []))) dirtyA
-    -- E+ (document 02, R-12). Versions 1, 2, 256 and 2^24; ids of 16, 19 and 20 bits; the high byte of nzones, which is rubbish in version 0;
-    -- the high half of the size, block bytes 40 to 43, and what is carried around it.
+    -- E+ (document 02, R-12). Versions 1, 2, 256, 257 and 2^24 + 1; ids of 16, 19 and 20 bits; the high byte of nzones, which is rubbish in
+    -- version 0; the high half of the size, block bytes 40 to 43, and what is carried around it.
     ∷ row (plusRecord []) (0 ∷ 0 ∷ [])
     ∷ row (recordA ((48, 0x02) ∷ [])) (2 ∷ 0 ∷ [])
     ∷ row (recordA ((49, 0x01) ∷ [])) (2 ∷ 0 ∷ [])
+    ∷ row (plusRecord ((49, 0x01) ∷ [])) (2 ∷ 0 ∷ [])
     ∷ row (plusRecord ((51, 0x01) ∷ [])) (2 ∷ 0 ∷ [])
     ∷ row (plusRecord ((8, 0x10) ∷ [])) (0 ∷ 0 ∷ [])
     ∷ row (plusRecord ((8, 0x13) ∷ [])) (0 ∷ 0 ∷ [])

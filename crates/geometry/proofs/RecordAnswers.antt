@@ -16,7 +16,7 @@ use Rattle.geometry.specs.declared.RecordRead.the-variants as read
 use Rattle.geometry.specs.Record.{discRecord, recordIn, geometryFrom, geometryOf}
 use Rattle.geometry.specs.Ranges.{zeroFrom, zeroEnd, fieldsFit, geometryFits, zeroBytes, recordFits}
 use Rattle.geometry.specs.Accepted.{AcceptedGeometry}
-use Rattle.geometry.specs.Answers.{refusal, byFit, byLength, recordOf, recordNumbers, recordTold, ReadsRecord}
+use Rattle.geometry.specs.Answers.{refusal, byFit, byLength, recordOf, recordNumbers, ReadsRecord}
 use Rattle.geometry.proofs.Numbers.{test-gives-accepted}
 
 -- from the tests to the answer

@@ -65,7 +65,7 @@ pub struct BlockBit(pub usize);
 pub struct DiscBit(pub u32);
 
 // The geometry that a map's record gives. Refused: 1 where the map is under 64 bytes, 2 where the record is outside its
-// ranges or its reserved bytes are not 0.
+// ranges or bytes are not 0 that have to be.
 pub fn read_record(map: &[u8]) -> RecordRead
     ensures { λ r. ⌜ ReadsRecord (now (map .entry)) r ⌝ }
 {

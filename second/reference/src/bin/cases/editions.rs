@@ -356,15 +356,11 @@ fn disc_size_bound_above_32_bits(cases: &mut Cases) {
         ..largest
     };
     // "the high half of the size, must be 0", though there would be room.
-    let size_high = 1;
-    head(
-        cases,
-        DiscRecord {
-            size_high,
-            ..largest
-        },
-        2,
-    );
+    let record = DiscRecord {
+        size_high: 1,
+        ..largest
+    };
+    head(cases, record, 2);
     for record in [largest, just_above] {
         for (disc_size, number) in [(1 << 31, 1), (u32::MAX - 255, 1), (u32::MAX, 2)] {
             let record = DiscRecord {
@@ -777,8 +773,8 @@ fn ids_above_16_bits(cases: &mut Cases) {
     let map = packed();
     let hole = 161 * 8_160 - 480 - 2_580;
     cases.claim(&map, 1).answers(&[65_537, hole, 20]);
-    let end = hole * 2_048;
-    cases.sweep_object(&map, 65_536, end - 5, 9).answers(&[5]);
+    let start = (hole - 20) * 2_048;
+    cases.sweep_object(&map, 65_536, start - 4, 9).answers(&[5]);
 }
 
 /// An object whose start zone is 700: 70,050 div 100. In 16 bits it is 4,514.
