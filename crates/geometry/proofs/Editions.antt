@@ -1,27 +1,22 @@
--- Maps by their format version: where its bytes lie, what each edition refuses, and that version 0 reads as it did before there
--- were versions.
+-- Maps by their format version: where its bytes lie, what each edition refuses, and that a record of version 0 is judged as it was
+-- before there were versions.
 use mathlib.Core.Path.{_≡_, refl, sym, ap, _∙_}
-use mathlib.Core.Bool.{_&&_}
+use mathlib.Core.Bool.{Bool, true, _&&_}
 use mathlib.Core.List.{List}
 use Prim.Native.Nat.{ℕ, _+_, _-_, _*_, _<_, _≤_}
 use native.Mathlib.Omega.{arith}
-use lib.Dec.{ltb}
 use lib.ListN.{length, getD, drop}
 use lib.Seq.{getD-take, getD-drop}
 use borrow.Author.Tests.{le-ltb}
 use Rattle.bits.proofs.Tests.{by-test, both}
 use Rattle.geometry.specs.declared.DiscRecord.{DiscRecord}
-use Rattle.geometry.specs.declared.Geometry.{Geometry}
-use Rattle.geometry.specs.declared.RecordRead.{RecordRead}
-use Rattle.geometry.specs.declared.RecordRead.the-variants as read
-use Rattle.geometry.specs.Record.{discRecord, byteAt, byVersion, versionOf, recordAs, geometryFrom, geometryOf}
+use Rattle.geometry.specs.Record.{discRecord, byteAt, byVersion, versionIn, recordAs, geometryFrom, geometryIn, versionOf, geometryOf}
 use Rattle.geometry.specs.Ranges.{RecordRules, ZeroBytes, zeroFrom, zeroEnd, fieldsFit, geometryFits, zeroBytes, recordFits}
-use Rattle.geometry.specs.Answers.{byFit, byLength, recordOf, recordTold}
-use Rattle.geometry.specs.Version0.{recordIn0, fieldsFit0, recordFits0, recordOf0}
+use Rattle.geometry.specs.Answers.{recordTold}
+use Rattle.geometry.specs.Version0.{recordIn0, geometryIn0, fieldsFit0, recordFits0}
 use Rattle.geometry.proofs.ZeroBytes.{test-gives-zero}
 use Rattle.geometry.proofs.Rules.{test-gives-rules}
 use Rattle.geometry.proofs.Numbers.{either-version}
-use Rattle.geometry.proofs.RecordAnswers.{accepted-by}
 
 -- a byte of the record is the map's, 4 bytes on
 in-map : (m : List ℕ) (i : ℕ) → i < 60 → byteAt (discRecord m) i ≡ getD m (4 + i) 0
@@ -64,24 +59,18 @@ dirty m long e b low high =
     let end : zeroEnd (versionOf m) ≡ 60 = ap zeroEnd e in
     not-zero m long b (omega arith) (omega arith) high
 
--- version 0: what is read depends on the version alone, beside what was read before
-module _ (m : List ℕ) where
-  abbrev r : List ℕ
-  r = discRecord m
+-- a record of version 0: what the version decides is what it was before
+module _ (r : List ℕ) where
+  abbrev fits-as : ℕ → Bool
+  fits-as v = let d : DiscRecord = recordAs v r in fieldsFit d && (geometryFits (geometryFrom d) && zeroBytes (zeroFrom v) (zeroEnd v) r)
 
-  abbrev read-as : ℕ → RecordRead
-  read-as v =
-      let d : DiscRecord = recordAs v r in
-      byLength (ltb (length m) 64) (byFit (fieldsFit d && (geometryFits (geometryFrom d) && zeroBytes (zeroFrom v) (zeroEnd v) r)) (geometryFrom d))
+  pub version-0 : versionIn r ≡ 0 → (recordFits r ≡ recordFits0 r) × (geometryIn r ≡ geometryIn0 r)
+  version-0 e = (ap fits-as e, ap (λ (v : ℕ). geometryFrom (recordAs v r)) e)
 
-  pub version-0 : versionOf m ≡ 0 → recordOf m ≡ recordOf0 m
-  version-0 e = ap read-as e
-
-  pub accepted-0 : (g : Geometry) → recordOf0 m ≡ read.Accepted g → versionOf m ≡ 0
-  accepted-0 g e =
-      let a = accepted-by (ltb (length m) 64) (recordFits0 r) g (geometryFrom (recordIn0 r)) e in
-      let p = both (fieldsFit0 (recordIn0 r)) _ (a .1) in
-      let q = both (geometryFits (geometryFrom (recordIn0 r))) (zeroBytes 32 60 r) (p .1) in
+  pub accepted-0 : recordFits0 r ≡ true → versionIn r ≡ 0
+  accepted-0 t =
+      let p = both (fieldsFit0 (recordIn0 r)) _ t in
+      let q = both (geometryFits (geometryIn0 r)) (zeroBytes 32 60 r) (p .1) in
       let zero : ZeroBytes 32 60 r = test-gives-zero 32 60 r (q .1) in
       let b0 = zero 44 (omega arith) (omega arith) in
       let b1 = zero 45 (omega arith) (omega arith) in

@@ -49,16 +49,15 @@ reads-record m e = record { answer = e; numbers = ap recordNumbers e ∙ told (l
     told false false = refl
 
 -- from the answer to the tests
-pub accepted-by : (short fits : Bool) (g h : Geometry) → byLength short (byFit fits h) ≡ read.Accepted g → (short ≡ false) × (fits ≡ true) × (g ≡ h)
-accepted-by true fits g h e = let x : _≡_ {A = ℕ} 0 1 = cc in absurd (omega arith)
-accepted-by false true g h e = (refl, refl, cc)
-accepted-by false false g h e = let x : _≡_ {A = ℕ} 0 1 = cc in absurd (omega arith)
-
 module _ (m : List ℕ) where
   pub accepted-says : (g : Geometry) → recordOf m ≡ read.Accepted g → (64 ≤ length m) × (recordFits (discRecord m) ≡ true) × (g ≡ geometryOf m)
-  accepted-says g e =
-      let a = accepted-by (ltb (length m) 64) (recordFits (discRecord m)) g (geometryOf m) e in
-      (ltb-false (length m) 64 (a .0), a .1, a .2)
+  accepted-says g = go (ltb (length m) 64) (recordFits (discRecord m)) (geometryOf m) refl
+    where
+      go : (short fits : Bool) (h : Geometry) → ltb (length m) 64 ≡ short → byLength short (byFit fits h) ≡ read.Accepted g
+          → (64 ≤ length m) × (fits ≡ true) × (g ≡ h)
+      go true fits h l e = let x : _≡_ {A = ℕ} 0 1 = cc in absurd (omega arith)
+      go false true h l e = (ltb-false (length m) 64 l, refl, cc)
+      go false false h l e = let x : _≡_ {A = ℕ} 0 1 = cc in absurd (omega arith)
 
   pub refused-says : (r : Refusal) → recordOf m ≡ read.Refused r
       → ((r ≡ refusal 1 0) × (length m < 64)) ⊎ ((r ≡ refusal 2 0) × (64 ≤ length m) × (recordFits (discRecord m) ≡ false))

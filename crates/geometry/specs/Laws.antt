@@ -5,13 +5,12 @@ use mathlib.Core.List.{List}
 use Prim.Native.Nat.{ℕ, suc, _+_, _*_, _/_, _%_, _<_, _≤_}
 use lib.ListN.{length, getD}
 use Rattle.geometry.specs.declared.Geometry.{Geometry}
-use Rattle.geometry.specs.declared.RecordRead.the-variants as read
-use Rattle.geometry.specs.Record.{recordIn, clusterOf, versionOf, geometryIn, geometryFrom, geometryOf, floppyDisc, eightZones, driveOf, plusDisc}
+use Rattle.geometry.specs.Record.{versionIn, recordIn, clusterOf, geometryFrom, geometryIn, versionOf, geometryOf, floppyDisc, eightZones, driveOf, plusDisc}
 use Rattle.geometry.specs.Ranges.{ZeroBytes, RecordRules, recordFits}
 use Rattle.geometry.specs.Accepted.{AcceptedGeometry}
 use Rattle.geometry.specs.Places.{firstBit, endBit, discBit, blockBit, zoneOf, zoneFrom, zoneEnd, discBits, startZone}
-use Rattle.geometry.specs.Answers.{recordOf, recordTold, startOf, startNumbers}
-use Rattle.geometry.specs.Version0.{recordOf0}
+use Rattle.geometry.specs.Answers.{recordTold, startOf, startNumbers}
+use Rattle.geometry.specs.Version0.{geometryIn0, recordFits0}
 
 pub record GeometryLaws : Type 0 where
   -- the test accepts a record exactly when it keeps the rules
@@ -51,10 +50,10 @@ pub record GeometryLaws : Type 0 where
   pub version-at : (m : List ℕ) → versionOf m ≡ getD m 48 0 + 256 * getD m 49 0 + 65536 * (getD m 50 0 + 256 * getD m 51 0)
   pub zones-at : (m : List ℕ) → let n = (geometryOf m) .zones in
       (versionOf m ≡ 0 → n ≡ getD m 13 0) × (versionOf m ≡ 1 → n ≡ getD m 13 0 + 256 * getD m 46 0)
-  -- "Take version 1 as E+ and 0 as what we have; others are refused with 2." A map of version 0 reads as before, and what was accepted
-  -- before is of version 0
-  pub version-0 : (m : List ℕ) → versionOf m ≡ 0 → recordOf m ≡ recordOf0 m
-  pub accepted-0 : (m : List ℕ) (g : Geometry) → recordOf0 m ≡ read.Accepted g → versionOf m ≡ 0
+  -- "Take version 1 as E+ and 0 as what we have; others are refused with 2." A record of version 0 is judged as before and gives the
+  -- geometry that it gave, and all that reads a map reads its record through these two; what was accepted before is of version 0
+  pub version-0 : (r : List ℕ) → versionIn r ≡ 0 → (recordFits r ≡ recordFits0 r) × (geometryIn r ≡ geometryIn0 r)
+  pub accepted-0 : (r : List ℕ) → recordFits0 r ≡ true → versionIn r ≡ 0
   pub other-version : (m : List ℕ) → 64 ≤ length m → 1 < versionOf m → recordTold m ≡ (2, 0)
   -- "For E+ nzones may be 1 to 65,535 under the same P*nzones rule": that rule leaves 20,971, and the rules hold for every number up to
   -- there with ids of 19 bits, whatever the carried bytes are

@@ -1,7 +1,7 @@
 pub mod Record
 pub mod Ranges
 pub mod Accepted
-pub mod Answers
 pub mod Version0
+pub mod Answers
 pub mod Places
 pub mod Laws

@@ -4,13 +4,11 @@
 use mathlib.Core.Bool.{Bool, _&&_}
 use mathlib.Core.List.{List}
 use Prim.Native.Nat.{ℕ, _+_, _*_}
-use lib.Dec.{ltb, leb}
-use lib.ListN.{length}
+use lib.Dec.{leb}
 use Rattle.geometry.specs.declared.DiscRecord.{DiscRecord}
-use Rattle.geometry.specs.declared.RecordRead.{RecordRead}
-use Rattle.geometry.specs.Record.{discRecord, byteAt, twoBytes, geometryFrom}
+use Rattle.geometry.specs.declared.Geometry.{Geometry}
+use Rattle.geometry.specs.Record.{byteAt, twoBytes, geometryFrom}
 use Rattle.geometry.specs.Ranges.{between, geometryFits, zeroBytes}
-use Rattle.geometry.specs.Answers.{byFit, byLength}
 
 -- "Offsets inside it: 0 log2secsize, 4 idlen, 5 log2bpmb, 9 nzones, 10 zone_spare (2 bytes), 16 disc_size (4 bytes)."
 abbrev pub recordIn0 : List ℕ → DiscRecord
@@ -24,6 +22,9 @@ recordIn0 r = record {
   version = 0;
 }
 
+abbrev pub geometryIn0 : List ℕ → Geometry
+geometryIn0 r = geometryFrom (recordIn0 r)
+
 -- "log2secsize 8 to 10; idlen from log2secsize+3 to 15; log2bpmb 7 to 12; nzones 1 to 127; zone_spare at least 32", nzones by R-4 to 255
 abbrev pub fieldsFit0 : DiscRecord → Bool
 fieldsFit0 r =
@@ -35,7 +36,4 @@ fieldsFit0 r =
 
 -- with R-7's rule on record bytes 32 to 59
 abbrev pub recordFits0 : List ℕ → Bool
-recordFits0 r = fieldsFit0 (recordIn0 r) && (geometryFits (geometryFrom (recordIn0 r)) && zeroBytes 32 60 r)
-
-abbrev pub recordOf0 : List ℕ → RecordRead
-recordOf0 m = byLength (ltb (length m) 64) (byFit (recordFits0 (discRecord m)) (geometryFrom (recordIn0 (discRecord m))))
+recordFits0 r = fieldsFit0 (recordIn0 r) && (geometryFits (geometryIn0 r) && zeroBytes 32 60 r)
