@@ -5,7 +5,8 @@ use mathlib.Core.List.{List}
 use Prim.Native.Nat.{ℕ, suc, _+_, _*_, _/_, _%_, _<_, _≤_}
 use lib.ListN.{length, getD}
 use Rattle.geometry.specs.declared.Geometry.{Geometry}
-use Rattle.geometry.specs.Record.{versionIn, recordIn, clusterOf, geometryFrom, geometryIn, versionOf, geometryOf, floppyDisc, eightZones, driveOf, plusDisc}
+use Rattle.geometry.specs.Record.{versionIn, recordIn, clusterOf, geometryFrom, geometryIn, versionOf, geometryOf}
+use Rattle.geometry.specs.Record.{floppyDisc, eightZones, driveOf, plusDisc}
 use Rattle.geometry.specs.Ranges.{ZeroBytes, RecordRules, recordFits}
 use Rattle.geometry.specs.Accepted.{AcceptedGeometry}
 use Rattle.geometry.specs.Places.{firstBit, endBit, discBit, blockBit, zoneOf, zoneFrom, zoneEnd, discBits, startZone}

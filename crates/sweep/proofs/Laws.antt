@@ -16,7 +16,7 @@ use Rattle.address.proofs.Laws.{sought}
 use Rattle.sweep.specs.Sweep.{covers, objectSpans}
 use Rattle.sweep.specs.Laws.{SweepLaws}
 use Rattle.sweep.proofs.ByTable.{sweep-by-table, free-sweep-by-table}
-use Rattle.sweep.proofs.OwnAnswers.{sweep-lists, listed-swept, sweep-reaches, reached-swept, free-sweep-spans, free-sweep-misses}
+use Rattle.sweep.proofs.OwnAnswers.{sweep-lists, listed-swept, sweep-reaches, reached-swept, free-sweep-spans, free-sweep-leaves, free-sweep-misses}
 use Rattle.sweep.proofs.SweptOn.{swept-length}
 use Rattle.sweep.proofs.SweptLaws.{swept-byte, cut-bytes, cut-count}
 use Rattle.sweep.proofs.SweptReached.{object-reached, object-covered, object-not-free}
@@ -40,9 +40,10 @@ sweep-laws = record {
   free-sweep-by-table = free-sweep-by-table;
   sweep-lists = sweep-lists;
   listed-swept = listed-swept;
-  sweep-reaches = λ m v id first n c e. sweep-reaches m id first n c e v;
+  sweep-reaches = sweep-reaches;
   reached-swept = reached-swept;
   free-sweep-spans = free-sweep-spans;
+  free-sweep-leaves = free-sweep-leaves;
   free-sweep-misses = free-sweep-misses;
   swept-is-reached = swept-is-reached;
   reached-is-swept = reached-is-swept;

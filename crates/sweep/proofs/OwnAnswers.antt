@@ -1,5 +1,5 @@
--- The laws of the sweeps' own answers: an answer is the class that the map shows (`ByTable`), and an object's class covers the addresses
--- of its bytes, which are those that `address` answers.
+-- The laws of the sweeps' own answers: an answer is the class that the map shows (`ByTable`), and an object's class covers the bytes of
+-- the pieces that `list` answers, which in version 0 are those that `address` answers.
 use mathlib.Core.Path.{_≡_, refl, sym, ap, _∙_, subst}
 use mathlib.Core.Bool.{true, false}
 use mathlib.Core.List.{List}
@@ -49,6 +49,11 @@ file-byte m id i =
     let o : startOffset (geometryOf m) (id * 256) + i ≡ i = rw (eq-eqb (id * 256 % 256) 0 z) (omega arith) in
     λ t. seek ((geometryOf m) .unit) (listedOn m (e t)) (o t)
 
+-- byte i of the pieces that `list` answers is that of the pieces that the map shows
+listed-byte : (m : List ℕ) (id room : ℕ) (qs : List Pair) → objectFound m id room ≡ answered qs
+    → (i : ℕ) → seek ((geometryOf m) .unit) qs i ≡ seek ((geometryOf m) .unit) (listedOn m id) i
+listed-byte m id room qs l i = ap (λ (x : List Pair). seek ((geometryOf m) .unit) x i) (list-shows m id room qs l)
+
 module _ (m : List ℕ) (id first n : ℕ) (c : Class) (e : objectSweep m id first n ≡ answered c) where
   abbrev g : Geometry
   g = geometryOf m
@@ -67,15 +72,13 @@ module _ (m : List ℕ) (id first n : ℕ) (c : Class) (e : objectSweep m id fir
   shown-covered i a s = ap (λ (x : Class). covers (x .unit) (x .pairs) a) class-is ∙ object-covered (shown m rules) id i a s
 
   -- and so those that `list` answers
-  module _ (room : ℕ) (qs : List Pair) (l : objectFound m id room ≡ answered qs) where
-    same : (i : ℕ) → seek (g .unit) qs i ≡ seek (g .unit) (listedOn m id) i
-    same i = ap (λ (x : List Pair). seek (g .unit) x i) (list-shows m id room qs l)
+  pub sweep-lists : (room : ℕ) (qs : List Pair) → objectFound m id room ≡ answered qs
+      → (a : ℕ) → covers (c .unit) (c .pairs) a ≡ true → (i : ℕ) × (seek (g .unit) qs i ≡ at a)
+  sweep-lists room qs l a h = let r = covered-shown a h in (r .0, listed-byte m id room qs l (r .0) ∙ r .1)
 
-    pub sweep-lists : (a : ℕ) → covers (c .unit) (c .pairs) a ≡ true → (i : ℕ) × (seek (g .unit) qs i ≡ at a)
-    sweep-lists a h = let r = covered-shown a h in (r .0, same (r .0) ∙ r .1)
-
-    pub listed-swept : (i a : ℕ) → seek (g .unit) qs i ≡ at a → covers (c .unit) (c .pairs) a ≡ true
-    listed-swept i a s = shown-covered i a (sym (same i) ∙ s)
+  pub listed-swept : (room : ℕ) (qs : List Pair) → objectFound m id room ≡ answered qs
+      → (i a : ℕ) → seek (g .unit) qs i ≡ at a → covers (c .unit) (c .pairs) a ≡ true
+  listed-swept room qs l i a s = shown-covered i a (sym (listed-byte m id room qs l i) ∙ s)
 
   pub sweep-reaches : versionOf m ≡ 0 → (a : ℕ) → covers (c .unit) (c .pairs) a ≡ true → (i : ℕ) × (addressFound m (id * 256) i ≡ answered a)
   sweep-reaches v a h =
@@ -90,11 +93,18 @@ module _ (m : List ℕ) (id first n : ℕ) (c : Class) (e : objectSweep m id fir
       shown-covered (startOffset g k + i) a (sym (ap (λ (y : ℕ). seek (g .unit) (listedOn m y) (startOffset g k + i)) o) ∙ found m k i a f .sought)
 
 module _ (m : List ℕ) (first n : ℕ) (c : Class) (e : freeSweep m first n ≡ answered c) where
-  pub free-sweep-misses : (k i a : ℕ) → addressFound m k i ≡ answered a → covers (c .unit) (c .pairs) a ≡ false
-  free-sweep-misses k i a f =
+  -- no byte of a piece that the map shows is covered
+  shown-left : (id i a : ℕ) → seek ((geometryOf m) .unit) (listedOn m id) i ≡ at a → covers (c .unit) (c .pairs) a ≡ false
+  shown-left id i a s =
       let v = table-answered (free-sweep-by-table m first n) e in
-      let s = found m k i a f in
-      ap (λ (x : Class). covers (x .unit) (x .pairs) a) (v .value) ∙ object-not-free (shown m (v .rules)) (idOf k) (startOffset (geometryOf m) k + i) a (s .sought)
+      ap (λ (x : Class). covers (x .unit) (x .pairs) a) (v .value) ∙ object-not-free (shown m (v .rules)) id i a s
+
+  pub free-sweep-leaves : (id room : ℕ) (qs : List Pair) → objectFound m id room ≡ answered qs
+      → (i a : ℕ) → seek ((geometryOf m) .unit) qs i ≡ at a → covers (c .unit) (c .pairs) a ≡ false
+  free-sweep-leaves id room qs l i a s = shown-left id i a (sym (listed-byte m id room qs l i) ∙ s)
+
+  pub free-sweep-misses : (k i a : ℕ) → addressFound m k i ≡ answered a → covers (c .unit) (c .pairs) a ≡ false
+  free-sweep-misses k i a f = shown-left (idOf k) (startOffset (geometryOf m) k + i) a (found m k i a f .sought)
 
   pub free-sweep-spans : (room : ℕ) (qs : List Pair) → freeFound m room ≡ answered qs → c .pairs ≡ qs
   free-sweep-spans room qs f = ap (λ (x : Class). x .pairs) (table-answered (free-sweep-by-table m first n) e .value) ∙ sym (free-shows m room qs f)

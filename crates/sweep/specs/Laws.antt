@@ -28,13 +28,16 @@ pub record SweepLaws : Type 0 where
       → covers (c .unit) (c .pairs) a ≡ true
   -- in version 0, exactly the addresses that `address` answers for it: each is that of a byte of the file with its id and low byte 0, and each
   -- byte of a file with its id lies there;
-  pub sweep-reaches : (m : List ℕ) → versionOf m ≡ 0 → (id first n : ℕ) (c : Class) → objectSweep m id first n ≡ answered c
-      → (a : ℕ) → covers (c .unit) (c .pairs) a ≡ true → (i : ℕ) × (addressFound m (id * 256) i ≡ answered a)
+  pub sweep-reaches : (m : List ℕ) (id first n : ℕ) (c : Class) → objectSweep m id first n ≡ answered c
+      → versionOf m ≡ 0 → (a : ℕ) → covers (c .unit) (c .pairs) a ≡ true → (i : ℕ) × (addressFound m (id * 256) i ≡ answered a)
   pub reached-swept : (m : List ℕ) (id first n : ℕ) (c : Class) → objectSweep m id first n ≡ answered c
       → (k i a : ℕ) → idOf k ≡ id → addressFound m k i ≡ answered a → covers (c .unit) (c .pairs) a ≡ true
-  -- that of free space takes the spans that `free` answers, and covers none of them
+  -- that of free space takes the spans that `free` answers, and covers no byte of a piece that `list` answers, and none that `address` answers
   pub free-sweep-spans : (m : List ℕ) (first n : ℕ) (c : Class) → freeSweep m first n ≡ answered c
       → (room : ℕ) (qs : List Pair) → freeFound m room ≡ answered qs → c .pairs ≡ qs
+  pub free-sweep-leaves : (m : List ℕ) (first n : ℕ) (c : Class) → freeSweep m first n ≡ answered c
+      → (id room : ℕ) (qs : List Pair) → objectFound m id room ≡ answered qs → (i a : ℕ) → seek ((geometryOf m) .unit) qs i ≡ at a
+      → covers (c .unit) (c .pairs) a ≡ false
   pub free-sweep-misses : (m : List ℕ) (first n : ℕ) (c : Class) → freeSweep m first n ≡ answered c
       → (k i a : ℕ) → addressFound m k i ≡ answered a → covers (c .unit) (c .pairs) a ≡ false
   -- the same of what was read: the sweep of an object covers exactly the addresses of its bytes, and that of free space none of them
