@@ -12,6 +12,7 @@ use Rattle.checks.specs.Cross.{crossOf, xorSum}
 use Rattle.geometry.specs.declared.Geometry.{Geometry}
 use Rattle.geometry.specs.Record.{discRecord, geometryOf}
 use Rattle.geometry.specs.Ranges.{recordFits}
+use Rattle.geometry.specs.Version0.{geometryIn0, recordFits0}
 use Rattle.geometry.specs.Places.{firstBit, endBit, discBit, idFrom}
 use Rattle.model.specs.Answer.{Answer, refused, answered, unless}
 use Rattle.model.specs.Fragments.{Fragment, fragmentsIn}
@@ -106,3 +107,12 @@ mapRead m =
     (unless (recordFits (discRecord m)) 2
     (unless (lengthFits (geometryOf m) m) 1
     (blocksRead (geometryOf m) (blocksOf (geometryOf m) m))))
+
+-- the same as it was before there were versions: what a map of version 0 gives (document 02, R-12)
+abbrev pub mapRead0 : List ℕ → Answer (List (List Entry))
+mapRead0 m =
+    let g : Geometry = geometryIn0 (discRecord m) in
+    unless (leb 64 (length m)) 1
+    (unless (recordFits0 (discRecord m)) 2
+    (unless (lengthFits g m) 1
+    (blocksRead g (blocksOf g m))))

@@ -7,7 +7,7 @@ use mathlib.Core.List.{List, [], _∷_, _++_}
 use Prim.Native.Nat.{ℕ, _+_, _-_, _*_, _%_, _<_, _≤_}
 use lib.ListN.{length, getD, drop, replicate}
 use Rattle.geometry.specs.declared.Geometry.{Geometry}
-use Rattle.geometry.specs.Record.{discRecord, geometryOf}
+use Rattle.geometry.specs.Record.{discRecord, versionOf, geometryOf}
 use Rattle.geometry.specs.Ranges.{RecordRules}
 use Rattle.geometry.specs.Accepted.{AcceptedGeometry}
 use Rattle.geometry.specs.Places.{firstBit, endBit}
@@ -16,7 +16,7 @@ use Rattle.model.specs.Fragments.{Fragment, fragmentThen, fragmentBits, 
 use Rattle.model.specs.Chain.{Entry}
 use Rattle.model.specs.Rules.{FragmentRule, ChainRule, OwnerRule, ZoneRules, ReadAs, CheckRule, CrossRule, zoneBlock, MapRules}
 use Rattle.model.specs.Blocks.{allocBits}
-use Rattle.model.specs.Check.{blocksOf, mapRead}
+use Rattle.model.specs.Check.{blocksOf, mapRead, mapRead0}
 
 -- a zone's own fault: the first of 6, 5, 7 that applies
 pub data ZoneFault (g : Geometry) (z : ℕ) (block : List ℕ) : ℕ → Type 0 where
@@ -84,3 +84,5 @@ pub record CheckIsTable : Type 0 where
   -- 6 in the table's three cases is 6 as a zone's fault: no fragments fill its bits by the rules
   pub case-is-six : (g : Geometry) → AcceptedGeometry g → (z : ℕ) (block : List ℕ) → SixCase g z block → ZoneFault g z block 6
   pub six-is-case : (g : Geometry) → AcceptedGeometry g → (z : ℕ) (block : List ℕ) → ZoneFault g z block 6 → SixCase g z block
+  -- "Take version 1 as E+ and 0 as what we have" (document 02, R-12): a map of version 0 reads as before
+  pub version-0 : (m : List ℕ) → versionOf m ≡ 0 → mapRead m ≡ mapRead0 m
