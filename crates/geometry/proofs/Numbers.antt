@@ -70,11 +70,12 @@ module _ (r : DiscRecord) (f : FieldRules r) where
   cluster : Clusters (g .cluster)
   cluster = clusters (r .logsector) (r .logunit) (f .sector-low) (f .sector-high) (f .unit-low) (f .unit-high)
 
-  pub longest : r .idlen ≤ 19
-  longest = let l : longestId (r .version) ≤ 19 = either-version (λ n. n ≤ 19) (r .version) refl (omega arith) (omega arith) in omega arith
+  -- of either edition
+  pub id-at-most : r .idlen ≤ 19
+  id-at-most = let l : longestId (r .version) ≤ 19 = either-version (λ n. n ≤ 19) (r .version) refl (omega arith) (omega arith) in omega arith
 
-  most : r .zones ≤ 65535
-  most = let l : mostZones (r .version) ≤ 65535 = either-version (λ n. n ≤ 65535) (r .version) refl (omega arith) (omega arith) in omega arith
+  zones-at-most : r .zones ≤ 65535
+  zones-at-most = let l : mostZones (r .version) ≤ 65535 = either-version (λ n. n ≤ 65535) (r .version) refl (omega arith) (omega arith) in omega arith
 
   -- S is a multiple of 4, as 2^(log2secsize - 2) * 4
   words : g .sector % 4 ≡ 0
@@ -99,12 +100,12 @@ module _ (r : DiscRecord) (f : FieldRules r) where
       let i : g .ids ≤ g .bits = div-le-self (g .bits) (r .idlen + 1) in
       record {
         sector-low = pow-pos (r .logsector);
-        idlen-high = longest;
+        idlen-high = id-at-most;
         unit-high = omega arith;
-        zones-high = omega (arith, most);
+        zones-high = omega (arith, zones-at-most);
         cluster-low = k .low;
         bits-high = omega arith;
-        shortest-high = omega (arith, longest);
+        shortest-high = omega (arith, id-at-most);
         ids-high = omega arith;
       }
 
@@ -128,7 +129,7 @@ module _ (r : DiscRecord) (f : FieldRules r) where
         let id : 12 ≤ r .idlen + 1 = omega arith in
         let z1 : 480 ≤ g .bits = omega arith in
         let z2 : g .bits ≤ 8160 = omega arith in
-        let few : 25 * (r .idlen + 1) ≤ g .bits = omega (arith, longest) in
+        let few : 25 * (r .idlen + 1) ≤ g .bits = omega (arith, id-at-most) in
         let many : g .bits < 681 * (r .idlen + 1) = omega arith in
         let pos : 0 < r .idlen + 1 = omega arith in
         let i1 : 25 ≤ g .ids = le-div-iff-mul-le pos .1 few in
@@ -138,11 +139,11 @@ module _ (r : DiscRecord) (f : FieldRules r) where
           sector-high = s2;
           sector-words = words;
           idlen-low = omega arith;
-          idlen-high = longest;
+          idlen-high = id-at-most;
           unit-low = b1;
           unit-high = b2;
           zones-low = f .zones-low;
-          zones-high = omega (arith, most);
+          zones-high = omega (arith, zones-at-most);
           cluster-low = k .low;
           cluster-high = k .high;
           bits-low = t .room-in-zone-0;

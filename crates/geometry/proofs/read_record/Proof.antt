@@ -12,7 +12,7 @@ use Rattle.geometry.specs.Ranges.{fieldsFit, zeroBytes}
 use Rattle.geometry.specs.Accepted.{SmallNumbers}
 use Rattle.geometry.specs.Answers.{byFit, recordOf}
 use Rattle.geometry.proofs.Rules.{test-gives-fields}
-use Rattle.geometry.proofs.Numbers.{either-version, longest, fields-give-small}
+use Rattle.geometry.proofs.Numbers.{either-version, id-at-most, fields-give-small}
 use Rattle.geometry.proofs.RecordAnswers.{read-short, read-outside, read-geometry, reads-record}
 use Rattle.geometry.proofs.read_record.Statement.{statement}
 use Rattle.geometry.proofs.read_record.Tie as tie
@@ -34,7 +34,7 @@ fields : (c : tie.Else2) → fieldsFit (c .before .before .record-in .result) �
 fields c = let f = c .before .fields-fit in sym (f .ensures) ∙ not-false (f .result) (c .if2 .left)
 
 geometry-from-requires : tie.Need-geometry-from-requires
-geometry-from-requires c κs = let f = test-gives-fields _ (fields c) in (f, longest _ f, c .before .before .record-in .ensures .2)
+geometry-from-requires c κs = let f = test-gives-fields _ (fields c) in (f, id-at-most _ f, c .before .before .record-in .ensures .2)
 
 geometry-fits-requires : tie.Need-geometry-fits-requires
 geometry-fits-requires c κs =
