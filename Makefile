@@ -10,7 +10,7 @@
 # make stack      the stack that each call needs, against what the header says
 # make rust       the tests of the Rust binding
 # make c-example  compiles README's C example and runs it on maps A and B
-# make disc       map B and an image for it in target/disc, for README's wipe (DISC=folder)
+# make disc       map B and an image for it in target/disc, for README's copy and wipe (DISC=folder)
 # make cases      the stored cases of crates vectors and map_lines_cases, written again by the second program
 MAP ?= maps/a.map
 SEEDS ?= 40000
@@ -68,6 +68,7 @@ c-example: library
 # Every byte of the image is known, so that one that should have stayed is noticed.
 disc:
 	mkdir -p $(DISC)
+	rm -f $(DISC)/file
 	cp maps/b.map $(DISC)/b.map
 	yes "the old owner's file" | head -c 1572864 > $(DISC)/b.image
 

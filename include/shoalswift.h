@@ -46,10 +46,10 @@
 #include <stdint.h>
 
 /* A new major number: callers have to change. A new minor number: there is more to call. */
-#define SHOALSWIFT_VERSION_MAJOR 0
-#define SHOALSWIFT_VERSION_MINOR 1
+#define SHOALSWIFT_VERSION_MAJOR 1
+#define SHOALSWIFT_VERSION_MINOR 0
 #define SHOALSWIFT_VERSION_PATCH 0
-#define SHOALSWIFT_VERSION "0.1.0"
+#define SHOALSWIFT_VERSION "1.0.0"
 
 #ifdef __cplusplus
 extern "C" {
@@ -70,8 +70,11 @@ uint32_t shoalswift_list(const uint8_t *map, size_t map_len, uint32_t id, uint32
 /* Writes the free spans, ascending, a pair for each free fragment; *pairs is their number. Further: 17. */
 uint32_t shoalswift_free(const uint8_t *map, size_t map_len, uint32_t *list, size_t list_len, uint64_t *pairs, uint32_t *zone);
 
-/* The disc address of a byte of the file with internal number n. Further: 8, on an E+ disc whatever n is; 10, 16. */
-uint32_t shoalswift_address(const uint8_t *map, size_t map_len, uint32_t n, uint64_t position, uint64_t *address, uint32_t *zone);
+/* Where a byte of the file with internal number n lies: *address is its disc address, and *run is how many bytes follow at consecutive
+ * disc addresses in the same piece, the asked one included. At position + *run is the first byte of the object's next piece, even of one
+ * that touches; at the object's end that is refused with 16. Further: 8, on an E+ disc whatever n is; 10, 16. */
+uint32_t shoalswift_address(const uint8_t *map, size_t map_len, uint32_t n, uint64_t position, uint64_t *address, uint64_t *run,
+                            uint32_t *zone);
 
 /* Writes the fill at each address of an object, or of free space, within a stretch of image that starts at disc address first;
  * *count is the number of these addresses. What lies outside the stretch is neither written nor counted. Further: 8 and 10 (object),

@@ -10,7 +10,7 @@
 //! state and does not unwind, so calls may run on many threads at once.
 
 use crate::declared::*;
-use crate::{Claimed, Geometry, Reason, Refusal};
+use crate::{Claimed, Geometry, Location, Reason, Refusal};
 
 /// Makes a call that answers a value and a zone: the value where its refusal
 /// number is 0, and else the refusal.
@@ -65,12 +65,16 @@ pub fn free(map: &[u8], list: &mut [u32]) -> Result<usize, Refusal> {
     pairs(|n, zone| unsafe { shoalswift_free(bytes, length, room, entries, n, zone) })
 }
 
-/// The disc address of a byte of the file with internal number `n`.
-/// Refused further: 8, on an E+ disc whatever `n` is; 10, 16.
-pub fn address(map: &[u8], n: u32, position: u64) -> Result<u64, Refusal> {
+/// Where a byte of the file with internal number `n` lies, and how many bytes
+/// can be read there. The file goes on at `position + run`, or that is refused
+/// with 16. Refused further: 8, on an E+ disc whatever `n` is; 10, 16.
+pub fn address(map: &[u8], n: u32, position: u64) -> Result<Location, Refusal> {
     let (bytes, length) = (map.as_ptr(), map.len());
     // SAFETY: the map is only read.
-    answered(|at, zone| unsafe { shoalswift_address(bytes, length, n, position, at, zone) })
+    answered(|found: &mut Location, zone| unsafe {
+        let (at, run) = (&mut found.address, &mut found.run);
+        shoalswift_address(bytes, length, n, position, at, run, zone)
+    })
 }
 
 /// Writes `fill` at each address of an object within a stretch of image that

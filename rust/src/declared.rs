@@ -36,6 +36,7 @@ extern "C" {
         n: u32,
         position: u64,
         address: *mut u64,
+        run: *mut u64,
         zone: *mut u32,
     ) -> u32;
     pub fn shoalswift_sweep_object(

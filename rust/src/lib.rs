@@ -45,6 +45,16 @@ pub struct Geometry {
     pub disc_size: u64,
 }
 
+/// Where a byte of a file lies.
+#[derive(Clone, Copy, Debug, Default, PartialEq, Eq)]
+pub struct Location {
+    /// Its disc address.
+    pub address: u64,
+    /// How many bytes follow at consecutive disc addresses in the same piece,
+    /// this one included.
+    pub run: u64,
+}
+
 /// What a claim gave: a new object of one piece.
 #[derive(Clone, Copy, Debug, Default, PartialEq, Eq)]
 pub struct Claimed {

@@ -5,7 +5,7 @@ use std::fs;
 
 use shoalswift::{
     address, check, claim, free, geometry, list, place, release, sweep_free, sweep_object, Claimed,
-    Geometry, Refusal,
+    Geometry, Location, Refusal,
 };
 
 fn map_a() -> Vec<u8> {
@@ -160,10 +160,12 @@ fn claim_rows() {
 
 #[test]
 fn address_rows() {
+    let at = |address, run| Ok(Location { address, run });
     let rows = [
-        (0x000503, 0, Ok(12_800)),
-        (0x000500, 19_967, Ok(32_255)),
-        (0x000501, 19_967, Ok(32_255)),
+        (0x000503, 0, at(12_800, 19_968)),
+        (0x000500, 19_967, at(32_255, 513)),
+        (0x000501, 19_967, at(32_255, 513)),
+        (0x000503, 19_967, at(32_767, 1)),
         (0x000503, 19_968, Err((16, 0))),
         (0x000503, u64::MAX, Err((16, 0))),
         (0x1000000, 0, Err((8, 0))),

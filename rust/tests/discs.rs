@@ -339,39 +339,50 @@ impl Disc {
         let length = self.map.len();
         self.image[at..at + length].copy_from_slice(&self.map);
         self.image[at + length..at + 2 * length].copy_from_slice(&self.map);
-        assert_eq!(address(&self.map, 0x200, 0), Ok(at as u64));
+        let found = address(&self.map, 0x200, 0).expect("every map has object 2");
+        assert_eq!(found.address, at as u64);
+        assert!(
+            found.run >= 2 * length as u64,
+            "both copies are in one piece"
+        );
     }
 }
 
-/// Reads a whole file through `address`, a map bit's bytes at a time.
-fn read_back(map: &[u8], image: &[u8], unit: usize, file: &File) -> Vec<u8> {
+/// Reads a whole file through `address`, run by run, and asks once for each
+/// piece and once more at the end.
+fn read_back(map: &[u8], image: &[u8], file: &File) -> Vec<u8> {
     let mut bytes = Vec::new();
-    while bytes.len() < file.contents.len() {
-        let at = address(map, file.id << 8, bytes.len() as u64).expect("within the file");
-        bytes.extend_from_slice(&image[at as usize..at as usize + unit]);
+    for _ in pieces(map, file.id) {
+        let found = address(map, file.id << 8, bytes.len() as u64).expect("within the file");
+        let (at, run) = (found.address as usize, found.run as usize);
+        bytes.extend_from_slice(&image[at..at + run]);
     }
+    let end = address(map, file.id << 8, bytes.len() as u64);
+    assert_eq!(end.unwrap_err().reason, Reason::PastEnd);
     bytes
 }
 
-/// Single bytes, at the ends of pieces too, by internal numbers that start the
-/// file at its first, third or eighth sector.
+/// Single bytes of each piece and how far may be read from them, by internal
+/// numbers that start the file at its first, third or eighth sector.
 fn read_bytes(disc: &Disc, map: &[u8], image: &[u8], file: &File) {
     let length = file.contents.len();
     let unit = disc.shape.bytes_per_map_bit();
-    let mut positions = vec![0, 1, length / 2];
+    // Each position with the end of its piece.
+    let mut positions = Vec::new();
     let mut end = 0;
     for (_, bits) in pieces(map, file.id) {
-        positions.push(end);
+        let first = end;
         end += bits * unit;
-        positions.push(end - 1);
+        positions.extend([first, first + 1, (first + end) / 2, end - 1].map(|at| (at, end)));
     }
     assert_eq!(end, length);
     for (low, skipped) in [(0, 0), (1, 0), (3, 2), (8, 7)] {
         let skipped = skipped * disc.shape.sector();
         let n = file.id << 8 | low;
-        for position in positions.iter().filter(|at| **at >= skipped) {
-            let at = address(map, n, (position - skipped) as u64).expect("within the file");
-            assert_eq!(image[at as usize], file.contents[*position]);
+        for (position, end) in positions.iter().filter(|(at, _)| *at >= skipped) {
+            let found = address(map, n, (position - skipped) as u64).expect("within the file");
+            assert_eq!(image[found.address as usize], file.contents[*position]);
+            assert_eq!(found.run, (end - position) as u64);
         }
         let past = address(map, n, length.saturating_sub(skipped) as u64);
         assert_eq!(past.unwrap_err().reason, Reason::PastEnd);
@@ -382,10 +393,9 @@ fn read_bytes(disc: &Disc, map: &[u8], image: &[u8], file: &File) {
 fn others_are_as_before(disc: &Disc, map: &[u8], image: &[u8], without: Option<u32>) {
     assert_eq!(check(map), Ok(()));
     assert_eq!(pieces(map, 2), pieces(&disc.map, 2));
-    let unit = disc.shape.bytes_per_map_bit();
     for file in disc.files.iter().filter(|file| Some(file.id) != without) {
         assert_eq!(pieces(map, file.id), pieces(&disc.map, file.id));
-        assert_eq!(read_back(map, image, unit, file), file.contents);
+        assert_eq!(read_back(map, image, file), file.contents);
         read_bytes(disc, map, image, file);
     }
 }

@@ -1,70 +1,28 @@
 //! The example that wipes, run as README shows it, and where it must fail.
 
-use std::env;
+mod programs;
+
 use std::fs::{self, File};
 use std::os::unix::fs::MetadataExt;
-use std::path::{Path, PathBuf};
-use std::process::Command;
+use std::path::Path;
 
+use programs::{folder, make_disc, readme_line, run, DISC_SIZE};
 use shoalswift::claim;
 
-const README: &str = include_str!("../../README.md");
-
-const DISC_SIZE: usize = 1_572_864;
-
-/// The example that was built with these tests.
-fn program() -> PathBuf {
-    let test = env::current_exe().expect("a test has a path");
-    let folder = test.parent().and_then(Path::parent).expect("two folders");
-    folder.join("examples/wipe")
-}
-
-/// An empty folder of this test's own.
-fn folder(name: &str) -> PathBuf {
-    let folder = Path::new(env!("CARGO_TARGET_TMPDIR")).join(name);
-    if folder.exists() {
-        fs::remove_dir_all(&folder).unwrap();
-    }
-    fs::create_dir_all(&folder).unwrap();
-    folder
-}
-
-/// The exit status and all that was printed.
 fn wipe(map: &Path, image: &Path, id: u32, fill: u8) -> (Option<i32>, String) {
-    let mut command = Command::new(program());
-    command.arg(map).arg(image);
-    command.args([id.to_string(), fill.to_string()]);
-    let output = command.output().expect("the example was built");
-    let text = [output.stdout, output.stderr].concat();
-    (output.status.code(), String::from_utf8(text).unwrap())
-}
-
-/// README's wipe line, and the lines that it shows as printed.
-fn readme_line() -> (String, String) {
-    let mut lines = README
-        .lines()
-        .skip_while(|line| !line.contains("--example wipe"));
-    let typed = lines.next().expect("README has the line").to_string();
-    let printed = lines.map_while(|line| line.strip_prefix("    "));
-    (typed, printed.map(|line| format!("{line}\n")).collect())
-}
-
-fn make_disc(folder: &Path) {
-    let disc = format!("DISC={}", folder.display());
-    let made = Command::new("make")
-        .args(["-C", "..", "disc", &disc])
-        .output();
-    assert!(made.expect("make is there").status.success());
+    let (id, fill) = (id.to_string(), fill.to_string());
+    run(
+        "wipe",
+        &[map.as_ref(), image.as_ref(), id.as_ref(), fill.as_ref()],
+    )
 }
 
 #[test]
 fn the_readme_line_prints_what_it_shows() {
     let folder = folder("readme");
-    make_disc(&folder);
-    let (typed, shown) = readme_line();
-    let (_, arguments) = typed.split_once(" --example wipe ").unwrap();
+    let (map, image) = make_disc(&folder);
+    let (arguments, shown) = readme_line("wipe");
     assert_eq!(arguments, "target/disc/b.map target/disc/b.image 5 0");
-    let (map, image) = (folder.join("b.map"), folder.join("b.image"));
     let mut expected = fs::read(&image).unwrap();
     assert_eq!(expected.len(), DISC_SIZE);
     assert_eq!(wipe(&map, &image, 5, 0), (Some(0), shown));

@@ -20,5 +20,8 @@ module _ (g : Geometry) (n : ℕ) where
   pub some-offset : (n % 256 ≡ 0 → ⊥) → (n % 256 - 1) * g .sector ≡ startOffset g n
   some-offset k = rw (ne-eqb (n % 256) 0 k)
 
+pub whole-object : (g : Geometry) (id : ℕ) → startOffset g (id * 256) ≡ 0
+whole-object g id = let e : id * 256 % 256 ≡ 0 = omega arith in rw e
+
 pub offset-small : (g : Geometry) → AcceptedGeometry g → (n : ℕ) → (n % 256 - 1) * g .sector < 262144
 offset-small g ok n = let l : n % 256 - 1 ≤ 254 = omega arith in omega (arith, mul-le-mul l (ok .sector-high))

@@ -19,10 +19,11 @@ use Rattle.model.specs.Refusals.{Refusing, line, ByLines, ByTable, Exactly}
 use Rattle.model.proofs.LinesJudged.{unless-line, line-one, by-table}
 use Rattle.listing.specs.Listed.{present}
 use Rattle.listing.proofs.ByTable.{on-zones, present-line}
-use Rattle.address.specs.Address.{idOf, startOffset, seek, within, numberFits, addressRead, addressFound}
-use Rattle.address.specs.Refusals.{joined, totalLength, addressLines, byteAddress}
-use Rattle.address.proofs.SeekOn.{seek-past}
-use Rattle.address.proofs.Joined.{length-total, joined-found}
+use Rattle.address.specs.declared.Location.{Location}
+use Rattle.address.specs.Address.{idOf, startOffset, locate, within, numberFits, locationRead, locationFound}
+use Rattle.address.specs.Refusals.{joined, joinedRuns, totalLength, addressLines, byteLocation}
+use Rattle.address.proofs.SeekOn.{locate-past}
+use Rattle.address.proofs.Joined.{length-total, located}
 
 -- 8
 abbrev pub NoNumber : Geometry → ℕ → Type 0
@@ -54,21 +55,22 @@ number-line ls a g n r h =
     (λ t. h)
 
 -- 16
-byte-line : (unit : ℕ) (qs : List Pair) (i : ℕ) → ByLines (line 16 (totalLength qs * unit ≤ i) ∷ []) (getD (joined unit qs) i 0) (within (seek unit qs i))
+byte-line : (unit : ℕ) (qs : List Pair) (i : ℕ)
+    → ByLines (line 16 (totalLength qs * unit ≤ i) ∷ []) (record { address = getD (joined unit qs) i 0; run = getD (joinedRuns unit qs) i 0 }) (within (locate unit qs i))
 byte-line unit qs i =
     by-test (ltb i (totalLength qs * unit))
     (λ t. let k = ltb-true i (totalLength qs * unit) t in
-    inr ((λ z p. omega (arith, p .1)), ap within (joined-found unit qs i (omega (arith, length-total unit qs)))))
-    (λ t. let k = ltb-false i (totalLength qs * unit) t in inl (0, (refl, k), ap within (seek-past unit qs i k)))
+    inr ((λ z p. omega (arith, p .1)), ap within (located unit qs i (omega (arith, length-total unit qs)))))
+    (λ t. let k = ltb-false i (totalLength qs * unit) t in inl (0, (refl, k), ap within (locate-past unit qs i k)))
 
-pub address-by-table : (m : List ℕ) (n position : ℕ) → Exactly (ByTable m (addressLines m n position) (byteAddress m n position)) (addressFound m n position)
+pub address-by-table : (m : List ℕ) (n position : ℕ) → Exactly (ByTable m (addressLines m n position) (byteLocation m n position)) (locationFound m n position)
 address-by-table m n position =
     let g : Geometry = geometryOf m in
     let qs : List Pair = listedOn m (idOf n) in
     let i : ℕ = startOffset g n + position in
-    let f : List Pair → Answer ℕ = λ ps. within (seek (g .unit) ps i) in
+    let f : List Pair → Answer Location = λ ps. within (locate (g .unit) ps i) in
     let byte : List Refusing = line 16 (totalLength qs * g .unit ≤ i) ∷ [] in
-    let a : ℕ = byteAddress m n position in
-    by-table m (addressLines m n position) a (line-one 8 _, (line-one 10 _, (line-one 16 _, tt))) (addressRead g n position)
-    (on-zones m (addressLines m n position) a (addressRead g n position)
+    let a : Location = byteLocation m n position in
+    by-table m (addressLines m n position) a (line-one 8 _, (line-one 10 _, (line-one 16 _, tt))) (locationRead g n position)
+    (on-zones m (addressLines m n position) a (locationRead g n position)
     (number-line (line 10 (qs ≡ []) ∷ byte) a g n (andThen (present qs) f) (present-line byte a (qs ≡ []) qs f (λ e. e) (λ e. e) (byte-line (g .unit) qs i))))

@@ -13,35 +13,34 @@ use Rattle.model.specs.Answer.{refused, answered}
 use Rattle.model.specs.Check.{mapRead}
 use Rattle.model.specs.Pieces.{piecesOfZones, objectPairs}
 use Rattle.listing.proofs.Laws.{accepted, same-zones}
-use Rattle.address.specs.Address.{idOf, startOffset, Sought, at, seek, addressFound}
+use Rattle.address.specs.Address.{idOf, startOffset, Sought, at, seek, locationFound}
 use Rattle.address.specs.Laws.{AddressLaws}
+use Rattle.address.proofs.Bounds.{whole-object}
 use Rattle.address.proofs.ByTable.{address-by-table}
 use Rattle.address.proofs.OwnAnswers.{answer-is-byte, one-byte, answer-on-disc}
 use Rattle.address.proofs.Joined.{joined-found, joined-ends}
 use Rattle.address.proofs.OneToOne.{object-one-to-one}
 use Rattle.address.proofs.DiscEnd.{object-on-disc}
+use Rattle.address.proofs.ByRuns.{run-in-piece, copied-by-runs, object-copied}
 
 module _ (m : List ℕ) (ess : List (List Entry)) (e : mapRead m ≡ answered ess) where
   abbrev g : Geometry
   g = geometryOf m
 
   -- byte i of an object
-  abbrev pub sought : ℕ → ℕ → Sought
+  abbrev pub sought : ℕ → ℕ → Sought ℕ
   sought id i = seek (g .unit) (objectPairs g id (piecesOfZones g 0 ess)) i
 
   one-to-one : (id i j x : ℕ) → sought id i ≡ at x → sought id j ≡ at x → i ≡ j
   one-to-one id i j x = rw (sym (same-zones m ess e)) (object-one-to-one (accepted m ess e) id i j x)
 
-  plus-refused : versionOf m ≡ 1 → (n position : ℕ) → addressFound m n position ≡ refused 8 0
+  plus-refused : versionOf m ≡ 1 → (n position : ℕ) → locationFound m n position ≡ refused 8 0
   plus-refused v n position = rw (e, eq-eqb (g .version) 1 v) refl
 
   on-disc : (id i x : ℕ) → (id ≡ 1 → ⊥) → sought id i ≡ at x → x < g .size
   on-disc id i x = rw (sym (same-zones m ess e)) (object-on-disc (accepted m ess e) id i x)
 
 -- internal numbers
-whole-object : (g : Geometry) (id : ℕ) → startOffset g (id * 256) ≡ 0
-whole-object g id = let e : id * 256 % 256 ≡ 0 = omega arith in rw e
-
 part-of-object : (g : Geometry) (id s : ℕ) → s < 255 → startOffset g (id * 256 + suc s) ≡ s * g .sector
 part-of-object g id s h =
     let e : (id * 256 + suc s) % 256 ≡ suc s = omega arith in
@@ -62,6 +61,9 @@ address-laws = record {
   answer-is-byte = answer-is-byte;
   one-byte = one-byte;
   answer-on-disc = answer-on-disc;
+  run-in-piece = run-in-piece;
+  copied-by-runs = copied-by-runs;
+  object-copied = object-copied;
   joined-found = joined-found;
   joined-ends = joined-ends;
   one-to-one = one-to-one;

@@ -6,4 +6,6 @@ pub mod AddressAnswers
 pub mod OneToOne
 pub mod DiscEnd
 pub mod OwnAnswers
+pub mod InRun
+pub mod ByRuns
 pub mod Laws

@@ -18,63 +18,65 @@ use Rattle.walk.specs.Remaining.{remaining, Advances}
 use Rattle.walk.specs.HeldBy.{pairIf, linePair, heldLines}
 use Rattle.walk.proofs.HeldLines.{held-none, held-step}
 use Rattle.listing.proofs.Ascend.{Apart}
+use Rattle.address.specs.declared.Location.{Location}
 use Rattle.address.specs.declared.Seek.{Seek}
 use Rattle.address.specs.declared.Seek.the-variants as found
-use Rattle.address.specs.Address.{Sought, at, past, seek, seekOf}
+use Rattle.address.specs.Address.{Sought, at, past, locate, seekOf}
 use Rattle.address.specs.Refusals.{totalLength}
 
 -- the answer is what was sought
-pub found-at : (s : Sought) (a : ℕ) → seekOf s ≡ found.At a → s ≡ at a
-found-at (at b) a e = let k : b ≡ a = cc in ap at k
-found-at (past i) a e = let x : _≡_ {A = ℕ} 0 1 = cc in absurd (omega arith)
+pub found-at : (s : Sought Location) (l : Location) → seekOf s ≡ found.At l → s ≡ at l
+found-at (at k) l e = let same : k ≡ l = cc in ap at same
+found-at (past i) l e = let x : _≡_ {A = ℕ} 0 1 = cc in absurd (omega arith)
 
-pub found-past : (s : Sought) (j : ℕ) → seekOf s ≡ found.Past j → s ≡ past j
-found-past (at b) j e = let x : _≡_ {A = ℕ} 0 1 = cc in absurd (omega arith)
+pub found-past : (s : Sought Location) (j : ℕ) → seekOf s ≡ found.Past j → s ≡ past j
+found-past (at k) j e = let x : _≡_ {A = ℕ} 0 1 = cc in absurd (omega arith)
 found-past (past i) j e = let k : i ≡ j = cc in ap past k
 
 module _ (unit : ℕ) where
   -- on into the next pairs
-  abbrev pub goOn : List Pair → Sought → Sought
-  goOn qs (at a) = at a
-  goOn qs (past j) = seek unit qs j
+  abbrev pub goOn : List Pair → Sought Location → Sought Location
+  goOn qs (at l) = at l
+  goOn qs (past j) = locate unit qs j
 
-  pub seek-append : (ps qs : List Pair) (i : ℕ) → seek unit (ps ++ qs) i ≡ goOn qs (seek unit ps i)
-  seek-append [] qs i = refl
-  seek-append (p ∷ ps) qs i =
+  pub locate-append : (ps qs : List Pair) (i : ℕ) → locate unit (ps ++ qs) i ≡ goOn qs (locate unit ps i)
+  locate-append [] qs i = refl
+  locate-append (p ∷ ps) qs i =
       by-test (ltb i (p .len * unit))
       (λ t. rw t)
-      (λ t. rw t (seek-append ps qs (i - p .len * unit)))
+      (λ t. rw t (locate-append ps qs (i - p .len * unit)))
 
   -- one pair, if it is wanted
-  pub wanted-at : (b : Bool) (start len i : ℕ) → b ≡ true → i < len * unit → found.At (start * unit + i) ≡ seekOf (seek unit (pairIf b start len) i)
+  pub wanted-at : (b : Bool) (start len i : ℕ) → b ≡ true → i < len * unit
+      → found.At (record { address = start * unit + i; run = len * unit - i }) ≡ seekOf (locate unit (pairIf b start len) i)
   wanted-at b start len i e h = rw (e, lt-ltb i (len * unit) h)
 
-  pub wanted-past : (b : Bool) (start len i : ℕ) → b ≡ true → len * unit ≤ i → found.Past (i - len * unit) ≡ seekOf (seek unit (pairIf b start len) i)
+  pub wanted-past : (b : Bool) (start len i : ℕ) → b ≡ true → len * unit ≤ i → found.Past (i - len * unit) ≡ seekOf (locate unit (pairIf b start len) i)
   wanted-past b start len i e h = rw (e, le-ltb i (len * unit) h)
 
-  pub unwanted-past : (b : Bool) (start len i : ℕ) → b ≡ false → found.Past i ≡ seekOf (seek unit (pairIf b start len) i)
+  pub unwanted-past : (b : Bool) (start len i : ℕ) → b ≡ false → found.Past i ≡ seekOf (locate unit (pairIf b start len) i)
   unwanted-past b start len i e = rw e
 
 -- what a holder has of the lines that remain for a walk, one line at a time
-pub lines-end : (h : ℕ) (m : List ℕ) (g : Geometry) (to : ℕ) (w : Walk) (unit i : ℕ) {whole : Sought} → seek unit (heldLines h (remaining m g to w)) i ≡ whole → to ≤ w .zone
+pub lines-end : (h : ℕ) (m : List ℕ) (g : Geometry) (to : ℕ) (w : Walk) (unit i : ℕ) {whole : Sought Location} → locate unit (heldLines h (remaining m g to w)) i ≡ whole → to ≤ w .zone
     → found.Past i ≡ seekOf whole
-lines-end h m g to w unit i s k = ap seekOf (sym (ap (λ (r : List Pair). seek unit r i) (held-none h m g to w k)) ∙ s)
+lines-end h m g to w unit i s k = ap seekOf (sym (ap (λ (r : List Pair). locate unit r i) (held-none h m g to w k)) ∙ s)
 
 module _ (h : ℕ) {m : List ℕ} {g : Geometry} {w : Walk} {r : Step} (a : Advances m g w r) (to : ℕ) (u : to ≤ g .zones) (k : w .zone < to) (unit i : ℕ)
-    {whole : Sought} (s : seek unit (heldLines h (remaining m g to w)) i ≡ whole) {q : Seek} (eq : q ≡ seekOf (seek unit (linePair h (r .line)) i)) where
-  abbrev this : Sought
-  this = seek unit (linePair h (r .line)) i
+    {whole : Sought Location} (s : locate unit (heldLines h (remaining m g to w)) i ≡ whole) {q : Seek} (eq : q ≡ seekOf (locate unit (linePair h (r .line)) i)) where
+  abbrev this : Sought Location
+  this = locate unit (linePair h (r .line)) i
 
   abbrev others : List Pair
   others = heldLines h (remaining m g to (r .after))
 
   on : goOn unit others this ≡ whole
-  on = sym (ap (λ (x : List Pair). seek unit x i) (held-step h a to u k) ∙ seek-append unit (linePair h (r .line)) others i) ∙ s
+  on = sym (ap (λ (x : List Pair). locate unit x i) (held-step h a to u k) ∙ locate-append unit (linePair h (r .line)) others i) ∙ s
 
-  pub line-found : {x : ℕ} → q ≡ found.At x → found.At x ≡ seekOf whole
-  line-found {x} e = ap seekOf (sym (ap (goOn unit others) (found-at this x (sym eq ∙ e))) ∙ on)
+  pub line-found : {l : Location} → q ≡ found.At l → found.At l ≡ seekOf whole
+  line-found {l} e = ap seekOf (sym (ap (goOn unit others) (found-at this l (sym eq ∙ e))) ∙ on)
 
-  pub line-past : {j : ℕ} → q ≡ found.Past j → seek unit others j ≡ whole
+  pub line-past : {j : ℕ} → q ≡ found.Past j → locate unit others j ≡ whole
   line-past {j} e = sym (ap (goOn unit others) (found-past this j (sym eq ∙ e))) ∙ on
 
 -- all the pairs' bits together
@@ -86,7 +88,7 @@ pub total-apart : (from end : ℕ) (qs : List Pair) → Apart from end qs → fr
 total-apart from end [] k = omega arith
 total-apart from end (q ∷ qs) k = omega (arith, k .0, total-apart (q .start + q .len) end qs (k .2))
 
-pub seek-past : (unit : ℕ) (qs : List Pair) (i : ℕ) → totalLength qs * unit ≤ i → seek unit qs i ≡ past (i - totalLength qs * unit)
-seek-past unit [] i h = rw (zero-mul, sub-zero)
-seek-past unit (q ∷ qs) i h =
-    rw (le-ltb i (q .len * unit) (omega arith)) (seek-past unit qs (i - q .len * unit) (omega arith) ∙ ap past (omega arith))
+pub locate-past : (unit : ℕ) (qs : List Pair) (i : ℕ) → totalLength qs * unit ≤ i → locate unit qs i ≡ past (i - totalLength qs * unit)
+locate-past unit [] i h = rw (zero-mul, sub-zero)
+locate-past unit (q ∷ qs) i h =
+    rw (le-ltb i (q .len * unit) (omega arith)) (locate-past unit qs (i - q .len * unit) (omega arith) ∙ ap past (omega arith))

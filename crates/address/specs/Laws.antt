@@ -1,7 +1,7 @@
 -- What holds of addresses on an accepted map (demand 2). Assumes nothing.
 use mathlib.Core.Path.{_≡_}
 use mathlib.Core.List.{List}
-use Prim.Native.Nat.{ℕ, suc, _+_, _*_, _<_}
+use Prim.Native.Nat.{ℕ, suc, _+_, _*_, _<_, _≤_}
 use lib.ListN.{length, getD}
 use Rattle.geometry.specs.declared.Geometry.{Geometry}
 use Rattle.geometry.specs.Record.{versionOf, geometryOf}
@@ -11,16 +11,19 @@ use Rattle.model.specs.Check.{mapRead}
 use Rattle.model.specs.Pieces.{piecesOfZones, objectPairs}
 use Rattle.model.specs.Refusals.{ByTable, Exactly}
 use Rattle.listing.specs.Listed.{objectFound}
-use Rattle.address.specs.Address.{idOf, startOffset, seek, at, addressFound}
-use Rattle.address.specs.Refusals.{joined, addressLines, byteAddress}
+use Rattle.listing.specs.Laws.{At}
+use Rattle.address.specs.declared.Location.{Location}
+use Rattle.address.specs.Address.{idOf, startOffset, seek, at, locationFound, addressFound}
+use Rattle.address.specs.Refusals.{joined, addressLines, byteLocation}
+use Rattle.address.specs.Reading.{RunIn, copied, ReadsFile}
 
 pub record AddressLaws : Type 0 where
   -- the call answers what its lines of the table say, in its order, and nothing else: each refusal "exactly when"
-  pub address-by-table : (m : List ℕ) (n position : ℕ) → Exactly (ByTable m (addressLines m n position) (byteAddress m n position)) (addressFound m n position)
+  pub address-by-table : (m : List ℕ) (n position : ℕ) → Exactly (ByTable m (addressLines m n position) (byteLocation m n position)) (locationFound m n position)
   -- "Address refuses E+ with 8, because its internal numbers are another matter" (document 02, R-12): every number, on every such map
   -- that is accepted
   pub plus-refused : (m : List ℕ) (ess : List (List Entry)) → mapRead m ≡ answered ess → versionOf m ≡ 1
-      → (n position : ℕ) → addressFound m n position ≡ refused 8 0
+      → (n position : ℕ) → locationFound m n position ≡ refused 8 0
   -- "id = n div 256, low byte s. Start offset is 0 for s = 0, else (s-1)*S."
   pub whole-object : (g : Geometry) (id : ℕ) → startOffset g (id * 256) ≡ 0
   pub part-of-object : (g : Geometry) (id s : ℕ) → s < 255 → startOffset g (id * 256 + suc s) ≡ s * g .sector
@@ -34,6 +37,17 @@ pub record AddressLaws : Type 0 where
       → (idOf n ≡ idOf k) × (startOffset (geometryOf m) n + i ≡ startOffset (geometryOf m) k + j)
   -- and every address lies on the disc
   pub answer-on-disc : (m : List ℕ) (n position a : ℕ) → addressFound m n position ≡ answered a → a < (geometryOf m) .size
+  -- An answer names one of the object's pieces as `list` answers them, and its run goes on to that piece's end (document 02, R-11);
+  pub run-in-piece : (m : List ℕ) (n position : ℕ) (l : Location) → locationFound m n position ≡ answered l
+      → (room : ℕ) (qs : List Pair) → objectFound m (idOf n) room ≡ answered qs
+      → (k : ℕ) × (q : Pair) × At q k qs × RunIn m n position l qs k q
+  -- so a copy tool that goes from run to run, and may ask once for each piece, reads the whole file
+  pub copied-by-runs : (m : List ℕ) (n position : ℕ) (l : Location) → locationFound m n position ≡ answered l
+      → (room : ℕ) (qs : List Pair) → objectFound m (idOf n) room ≡ answered qs
+      → (asks : ℕ) → length qs ≤ asks → ReadsFile m n position qs (copied (locationFound m n) asks position)
+  -- and in version 0 every object that has a number: exactly its bytes, in order
+  pub object-copied : (m : List ℕ) → versionOf m ≡ 0 → (id room : ℕ) (qs : List Pair) → 2 ≤ id → objectFound m id room ≡ answered qs
+      → (asks : ℕ) → length qs ≤ asks → copied (locationFound m (id * 256)) asks 0 ≡ joined ((geometryOf m) .unit) qs
   -- byte i of the joined pieces is found at its address, and nothing past their end
   pub joined-found : (unit : ℕ) (qs : List Pair) (i : ℕ) → i < length (joined unit qs) → seek unit qs i ≡ at (getD (joined unit qs) i 0)
   pub joined-ends : (unit : ℕ) (qs : List Pair) (i a : ℕ) → seek unit qs i ≡ at a → i < length (joined unit qs)

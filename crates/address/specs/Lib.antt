@@ -1,3 +1,4 @@
 pub mod Address
 pub mod Refusals
+pub mod Reading
 pub mod Laws

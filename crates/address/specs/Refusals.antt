@@ -10,6 +10,7 @@ use Rattle.geometry.specs.Record.{versionOf, geometryOf}
 use Rattle.model.specs.Chain.{Pair}
 use Rattle.model.specs.Shown.{listedOn}
 use Rattle.model.specs.Refusals.{Refusing, line, Outside, NotThere}
+use Rattle.address.specs.declared.Location.{Location}
 use Rattle.address.specs.Address.{idOf, startOffset}
 
 -- "The object's bytes are its pieces joined in order": their addresses, one after another
@@ -20,6 +21,15 @@ addressesFrom a (suc n) = a ∷ addressesFrom (suc a) n
 abbrev pub joined : ℕ → List Pair → List ℕ
 joined unit [] = []
 joined unit (q ∷ qs) = addressesFrom (q .start * unit) (q .len * unit) ++ joined unit qs
+
+-- and how many bytes there are from each to its piece's end, itself included
+abbrev pub countdown : ℕ → List ℕ
+countdown zero = []
+countdown (suc n) = suc n ∷ countdown n
+
+abbrev pub joinedRuns : ℕ → List Pair → List ℕ
+joinedRuns unit [] = []
+joinedRuns unit (q ∷ qs) = countdown (q .len * unit) ++ joinedRuns unit qs
 
 -- all the pairs' bits together
 abbrev pub totalLength : List Pair → ℕ
@@ -39,6 +49,12 @@ addressLines m n position =
     ∷ line 16 (bytesLong m (idOf n) ≤ startOffset (geometryOf m) n + position)
     ∷ []
 
--- the address of that byte of the object
+-- where that byte of the object lies: its address, and the bytes from there to the piece's end
 abbrev pub byteAddress : List ℕ → ℕ → ℕ → ℕ
 byteAddress m n position = getD (joined ((geometryOf m) .unit) (listedOn m (idOf n))) (startOffset (geometryOf m) n + position) 0
+
+abbrev pub byteLocation : List ℕ → ℕ → ℕ → Location
+byteLocation m n position = record {
+  address = byteAddress m n position;
+  run = getD (joinedRuns ((geometryOf m) .unit) (listedOn m (idOf n))) (startOffset (geometryOf m) n + position) 0;
+}

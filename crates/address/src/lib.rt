@@ -1,4 +1,4 @@
-// The disc address of a byte of a file (document 01, "The calls").
+// The disc address of a byte of a file, and how far may be read from there (document 01, "The calls"; document 02, R-11).
 use geometry::DiscBit;
 use geometry::Geometry;
 use geometry::Refusal;
@@ -10,21 +10,23 @@ ghost use Prim.Native.Nat.{_<_, _≤_};
 ghost use Rattle.geometry.specs.Accepted.{AcceptedGeometry};
 ghost use Rattle.map.specs.Accepted.{AcceptedMap};
 ghost use Rattle.walk.specs.HeldBy.{pairIf, heldBetween, heldInOrder};
-ghost use Rattle.address.specs.Address.{startOffset, seek, seekOf, within, addressFound, addressAnswer, Reaches};
+ghost use Rattle.address.specs.Address.{startOffset, locate, seekOf, within, locationFound, addressAnswer, Reaches};
 ghost use Rattle.address.specs.Laws.{AddressLaws};
 
-// Where a byte of an object lies on the disc.
+// Where a byte of an object lies on the disc, and how many bytes there are from it to its piece's end, itself included: they lie
+// at `address` and straight after it, and the object's next byte is in another piece, even one that touches.
 pub struct Location {
     pub address: u64,
+    pub run: u64,
 }
 
-// A disc address, or a refusal.
+// Where a byte lies, or a refusal.
 pub enum Reached {
     At(Location),
     Refused(Refusal),
 }
 
-// The disc address of byte `position` of the file with internal number n. Refused: 1 to 7 as `map::check`, 8, 10, 16.
+// Where byte `position` of the file with internal number n lies. Refused: 1 to 7 as `map::check`, 8, 10, 16.
 pub fn address(map: &[u8], n: u32, position: u64) -> Reached
     ensures { λ r. ⌜ Reaches (now (map .entry)) n position r ⌝ }
 {
@@ -37,7 +39,7 @@ pub fn address(map: &[u8], n: u32, position: u64) -> Reached
 // An address on an accepted map: 8, on E+ whatever the number; 10, 16.
 fn address_in(map: &[u8], g: Geometry, n: u32, position: u64) -> Reached
     requires { ⌜ AcceptedMap (now map) g ⌝ }
-    ensures { λ r. ⌜ r ≡ addressAnswer (addressFound (now (map .entry)) n position) ⌝ }
+    ensures { λ r. ⌜ r ≡ addressAnswer (locationFound (now (map .entry)) n position) ⌝ }
 {
     if g.version == 1 {
         return Reached::Refused(refuse(8));
@@ -64,13 +66,13 @@ fn address_in(map: &[u8], g: Geometry, n: u32, position: u64) -> Reached
 // Byte i of an object, from its start zone on and then in the zones before it.
 fn seek_object(map: &[u8], g: Geometry, id: u32, start: usize, i: usize) -> Reached
     requires { ⌜ AcceptedMap (now map) g × (start ≤ g .zones) ⌝ }
-    ensures { λ r. ⌜ r ≡ addressAnswer (within (seek (g .unit) (heldInOrder g id (now (map .entry)) start) i)) ⌝ }
+    ensures { λ r. ⌜ r ≡ addressAnswer (within (locate (g .unit) (heldInOrder g id (now (map .entry)) start) i)) ⌝ }
 {
     let zones = g.zones;
     match seek_held(map, g, id, start, zones, i) {
-        Seek::At(a) => Reached::At(Location { address: a as u64 }),
+        Seek::At(l) => Reached::At(l),
         Seek::Past(j) => match seek_held(map, g, id, 0, start, j) {
-            Seek::At(a) => Reached::At(Location { address: a as u64 }),
+            Seek::At(l) => Reached::At(l),
             Seek::Past(_) => Reached::Refused(refuse(16)),
         },
     }
@@ -88,16 +90,16 @@ fn start_offset(g: Geometry, n: u32) -> usize
     (s - 1) * g.sector
 }
 
-// A byte's address, or how far past the pieces it lies.
+// Where a byte lies, or how far past the pieces.
 enum Seek {
-    At(usize),
+    At(Location),
     Past(usize),
 }
 
 // Byte i of a holder's fragments in zones `from` to `to`, joined.
 fn seek_held(map: &[u8], g: Geometry, holder: u32, from: usize, to: usize, i: usize) -> Seek
     requires { ⌜ AcceptedMap (now map) g × (from ≤ to) × (to ≤ g .zones) ⌝ }
-    ensures { λ r. ⌜ r ≡ seekOf (seek (g .unit) (heldBetween g holder (now (map .entry)) from to) i) ⌝ }
+    ensures { λ r. ⌜ r ≡ seekOf (locate (g .unit) (heldBetween g holder (now (map .entry)) from to) i) ⌝ }
 {
     let unit = g.unit;
     let mut left = i;
@@ -106,8 +108,8 @@ fn seek_held(map: &[u8], g: Geometry, holder: u32, from: usize, to: usize, i: us
         let s = walk::next(map, g, w);
         let line = s.line;
         match seek_line(line.holder == holder, line.start, line.len, unit, left) {
-            Seek::At(x) => {
-                return Seek::At(x);
+            Seek::At(l) => {
+                return Seek::At(l);
             }
             Seek::Past(j) => {
                 left = j;
@@ -121,12 +123,15 @@ fn seek_held(map: &[u8], g: Geometry, holder: u32, from: usize, to: usize, i: us
 // Byte i of a pair that is wanted; one that is not has no bytes.
 fn seek_line(wanted: bool, start: DiscBit, len: u32, unit: usize, i: usize) -> Seek
     requires { ⌜ unit ≤ 4096 ⌝ }
-    ensures { λ r. ⌜ r ≡ seekOf (seek unit (pairIf wanted (start .0) len) i) ⌝ }
+    ensures { λ r. ⌜ r ≡ seekOf (locate unit (pairIf wanted (start .0) len) i) ⌝ }
 {
     let bytes = len as usize * unit;
     if wanted {
         if i < bytes {
-            return Seek::At(start.0 as usize * unit + i);
+            return Seek::At(Location {
+                address: (start.0 as usize * unit + i) as u64,
+                run: (bytes - i) as u64,
+            });
         }
         return Seek::Past(i - bytes);
     }

@@ -11,7 +11,7 @@ use Rattle.model.specs.Answer.{Answer}
 use Rattle.model.specs.Chain.{Pair}
 use Rattle.map.specs.Checked.{checked, checkNumbers}
 use Rattle.listing.specs.Listed.{objectFound, freeFound, listAnswer, listAfter, listNumbers}
-use Rattle.address.specs.Address.{addressFound, addressAnswer, addressNumbers}
+use Rattle.address.specs.Address.{locationFound, addressAnswer, addressNumbers}
 use Rattle.sweep.specs.Sweep.{Class, objectSweep, freeSweep, sweepAnswer, sweepNumbers, imageAfter}
 use Rattle.edits.specs.Judge.{Call, need}
 use Rattle.edits.specs.Judge as call
@@ -50,6 +50,9 @@ two n = n .0 ∷ n .1 ∷ []
 abbrev pub three : ℕ × ℕ × ℕ → List ℕ
 three n = n .0 ∷ n .1 ∷ n .2 ∷ []
 
+abbrev pub four : ℕ × ℕ × ℕ × ℕ → List ℕ
+four n = n .0 ∷ n .1 ∷ n .2 ∷ n .3 ∷ []
+
 abbrev pub five : ℕ × ℕ × ℕ × ℕ × ℕ → List ℕ
 five n = n .0 ∷ n .1 ∷ n .2 ∷ n .3 ∷ n .4 ∷ []
 
@@ -70,7 +73,7 @@ answer (record-read m) = two (recordNumbers (recordOf m))
 answer (check m) = two (checkNumbers (checked m))
 answer (list m id old) = listed old (objectFound m id (length old))
 answer (free m old) = listed old (freeFound m (length old))
-answer (address m n position) = three (addressNumbers (addressAnswer (addressFound m n position)))
+answer (address m n position) = four (addressNumbers (addressAnswer (locationFound m n position)))
 answer (sweepObject m id first fill old) = swept first fill old (objectSweep m id first (length old))
 answer (sweepFree m first fill old) = swept first fill old (freeSweep m first (length old))
 answer (counted m id first n) = sweepCount first n (objectSweep m id first n)

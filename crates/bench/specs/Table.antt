@@ -108,10 +108,11 @@ table =
     ∷ row (claim mapA 1560576) (0 ∷ 0 ∷ 3 ∷ 12 ∷ 1524 ∷ [])
     ∷ row (claim mapA 1560577) (15 ∷ 0 ∷ 0 ∷ 0 ∷ 0 ∷ [])
     -- "B, address: 0x000503 at 0 is 12,800; 0x000500 and 0x000501 at 19,967 both give 32,255; 0x000503 at 19,968 is refused with 16."
-    ∷ row (address mapB 0x000503 0) (0 ∷ 0 ∷ 12800 ∷ [])
-    ∷ row (address mapB 0x000500 19967) (0 ∷ 0 ∷ 32255 ∷ [])
-    ∷ row (address mapB 0x000501 19967) (0 ∷ 0 ∷ 32255 ∷ [])
-    ∷ row (address mapB 0x000503 19968) (16 ∷ 0 ∷ 0 ∷ [])
+    -- "the address examples gain this number: for map B, 0x000503 at 0 has 19,968" (document 02, R-11).
+    ∷ row (address mapB 0x000503 0) (0 ∷ 0 ∷ 12800 ∷ 19968 ∷ [])
+    ∷ row (address mapB 0x000500 19967) (0 ∷ 0 ∷ 32255 ∷ 513 ∷ [])
+    ∷ row (address mapB 0x000501 19967) (0 ∷ 0 ∷ 32255 ∷ 513 ∷ [])
+    ∷ row (address mapB 0x000503 19968) (16 ∷ 0 ∷ 0 ∷ 0 ∷ [])
     -- "B, sweep of 5, address 12,000, 1,000 bytes: 712. Empty stretch at 1,572,864: 0; one byte there: 16."
     ∷ row (counted mapB 5 12000 1000) (0 ∷ 0 ∷ 712 ∷ [])
     ∷ row (counted mapB 5 1572864 0) (0 ∷ 0 ∷ 0 ∷ [])
@@ -171,13 +172,19 @@ table =
     -- Every call tells the zone of a refused map, and leaves what it was lent.
     ∷ row (list spoiltD 2 lent) (3 ∷ 1 ∷ 0 ∷ 9 ∷ 9 ∷ 9 ∷ 9 ∷ [])
     ∷ row (free spoiltD lent) (3 ∷ 1 ∷ 0 ∷ 9 ∷ 9 ∷ 9 ∷ 9 ∷ [])
-    ∷ row (address spoiltD 0x000200 0) (3 ∷ 1 ∷ 0 ∷ [])
+    ∷ row (address spoiltD 0x000200 0) (3 ∷ 1 ∷ 0 ∷ 0 ∷ [])
     ∷ row (sweepFree spoiltD 0 7 (1 ∷ [])) (3 ∷ 1 ∷ 0 ∷ 1 ∷ [])
-    -- An object of two pieces: a pair for each, even where they touch; its bytes are joined in that order, and both are swept.
+    -- An object of two pieces: a pair for each, even where they touch; its bytes are joined in that order, a run for each piece, and both
+    -- are swept. E's 168 goes on from zone 1 to zone 0.
     ∷ row (after mapA (call.place 5 (12 ∷ 12 ∷ 24 ∷ 12 ∷ []))) twoPieces
     ∷ row (list twoPieces 5 lent) (0 ∷ 0 ∷ 2 ∷ 12 ∷ 12 ∷ 24 ∷ 12 ∷ [])
-    ∷ row (address twoPieces 0x000500 0) (0 ∷ 0 ∷ 12288 ∷ [])
-    ∷ row (address twoPieces 0x000500 12288) (0 ∷ 0 ∷ 24576 ∷ [])
+    ∷ row (address twoPieces 0x000500 0) (0 ∷ 0 ∷ 12288 ∷ 12288 ∷ [])
+    ∷ row (address twoPieces 0x000500 12287) (0 ∷ 0 ∷ 24575 ∷ 1 ∷ [])
+    ∷ row (address twoPieces 0x000500 12288) (0 ∷ 0 ∷ 24576 ∷ 12288 ∷ [])
+    ∷ row (address twoPieces 0x000534 0) (0 ∷ 0 ∷ 25344 ∷ 11520 ∷ [])
+    ∷ row (address twoPieces 0x000500 24576) (16 ∷ 0 ∷ 0 ∷ 0 ∷ [])
+    ∷ row (address mapE 0x00A800 12287) (0 ∷ 0 ∷ 1597439 ∷ 1 ∷ [])
+    ∷ row (address mapE 0x00A800 12288) (0 ∷ 0 ∷ 0 ∷ 12288 ∷ [])
     ∷ row (sweepObject twoPieces 5 24574 7 (1 ∷ 1 ∷ 1 ∷ 1 ∷ [])) (0 ∷ 0 ∷ 4 ∷ 7 ∷ 7 ∷ 7 ∷ 7 ∷ [])
     -- Start zones: of object 2 the middle one, of any other id div P; no zone for 0 and for P*nzones.
     ∷ row (start (geometryFrom eightZones) 2) (0 ∷ 0 ∷ 4 ∷ [])
@@ -248,10 +255,10 @@ table =
     ∷ row (check plusA) (0 ∷ 0 ∷ [])
     ∷ row (list plusA 2 lent) (0 ∷ 0 ∷ 1 ∷ 0 ∷ 12 ∷ 9 ∷ 9 ∷ [])
     ∷ row (free plusA lent) (0 ∷ 0 ∷ 1 ∷ 12 ∷ 1524 ∷ 9 ∷ 9 ∷ [])
-    ∷ row (address mapA 0x000200 0) (0 ∷ 0 ∷ 0 ∷ [])
-    ∷ row (address plusA 0x000200 0) (8 ∷ 0 ∷ 0 ∷ [])
-    ∷ row (address plusA 0x000500 0) (8 ∷ 0 ∷ 0 ∷ [])
-    ∷ row (address (withBytes ((0, 0xC5) ∷ []) plusA) 0x000200 0) (3 ∷ 0 ∷ 0 ∷ [])
+    ∷ row (address mapA 0x000200 0) (0 ∷ 0 ∷ 0 ∷ 12288 ∷ [])
+    ∷ row (address plusA 0x000200 0) (8 ∷ 0 ∷ 0 ∷ 0 ∷ [])
+    ∷ row (address plusA 0x000500 0) (8 ∷ 0 ∷ 0 ∷ 0 ∷ [])
+    ∷ row (address (withBytes ((0, 0xC5) ∷ []) plusA) 0x000200 0) (3 ∷ 0 ∷ 0 ∷ 0 ∷ [])
     ∷ row (after plusA (call.place 5 (12 ∷ 20 ∷ []))) (withBytes ((0, 0x29) ∷ (48, 0x01) ∷ []) mapB)
     ∷ row (after (withBytes ((0, 0x29) ∷ (48, 0x01) ∷ []) mapB) (call.release 5 4)) plusA
     -- Ids of 19 bits: a fragment has 20 bits or more, and a claim writes all of its id.

@@ -11,7 +11,8 @@ use Rattle.map.specs.Checked.{Checks, checkNumbers}
 use Rattle.map.specs.declared.Checked.{Checked}
 use Rattle.listing.specs.Listed.{Lists, listNumbers}
 use Rattle.listing.specs.declared.Listed.{Listed}
-use Rattle.address.specs.Address.{Reaches, addressFound, addressNumbers}
+use Rattle.address.specs.Address.{Reaches, locationFound, addressNumbers}
+use Rattle.address.specs.declared.Location.{Location}
 use Rattle.address.specs.declared.Reached.{Reached}
 use Rattle.sweep.specs.Sweep.{Class, Sweeps, sweptBytes, coveredCount, sweepNumbers}
 use Rattle.sweep.specs.declared.Swept.{Swept}
@@ -36,9 +37,9 @@ pub record ListTells (found : Answer (List Pair)) (old : List ℕ) (r : Listed) 
   pub accepted-told : (qs : List Pair) → found ≡ answered qs → (listNumbers r ≡ (0, 0, length qs)) × (new ≡ numbersOf qs ++ drop (2 * length qs) old)
 
 -- address
-pub record AddressTells (found : Answer ℕ) (r : Reached) : Type 0 where
-  pub refused-told : (n z : ℕ) → found ≡ refused n z → addressNumbers r ≡ (n, z, 0)
-  pub accepted-told : (a : ℕ) → found ≡ answered a → addressNumbers r ≡ (0, 0, a)
+pub record AddressTells (found : Answer Location) (r : Reached) : Type 0 where
+  pub refused-told : (n z : ℕ) → found ≡ refused n z → addressNumbers r ≡ (n, z, 0, 0)
+  pub accepted-told : (l : Location) → found ≡ answered l → addressNumbers r ≡ (0, 0, l .address, l .run)
 
 -- the sweeps: "answers how many those are"
 pub record SweepTells (found : Answer Class) (first fill : ℕ) (old : List ℕ) (r : Swept) (new : List ℕ) : Type 0 where
@@ -63,7 +64,7 @@ pub record ClaimTells (m : List ℕ) (size : ℕ) (r : Claimed) (after : List �
 pub record AnswersTold : Type 0 where
   pub checks : (m : List ℕ) (r : Checked) → Checks m r → CheckTells m r
   pub lists : (found : Answer (List Pair)) (old : List ℕ) (r : Listed) (new : List ℕ) → Lists found old r new → ListTells found old r new
-  pub reaches : (m : List ℕ) (n position : ℕ) (r : Reached) → Reaches m n position r → AddressTells (addressFound m n position) r
+  pub reaches : (m : List ℕ) (n position : ℕ) (r : Reached) → Reaches m n position r → AddressTells (locationFound m n position) r
   pub sweeps : (found : Answer Class) (first fill : ℕ) (old : List ℕ) (r : Swept) (new : List ℕ)
       → Sweeps found first fill old r new → SweepTells found first fill old r new
   pub releases : (m : List ℕ) (id : ℕ) (old : List ℕ) (r : Listed) (after new : List ℕ) → Releases m id old r after new → ReleaseTells m id old r after new

@@ -17,7 +17,7 @@ use Rattle.model.specs.Pieces.{Piece, keep, ownedIf, ownedOf, piecesOfZones, pi
 use Rattle.map.specs.Accepted.{AcceptedMap}
 use Rattle.listing.specs.Laws.{At, first, later}
 use Rattle.listing.proofs.Filled.{Fills, discEntries, map-fills}
-use Rattle.listing.proofs.Ascend.{Apart, apart-from, apart-in-turn, map-apart}
+use Rattle.listing.proofs.Ascend.{Apart, apart-from, apart-at, apart-in-turn, map-apart}
 use Rattle.listing.proofs.FreeHeld.{free-spans}
 use Rattle.listing.proofs.ObjectOrder.{places, places-append}
 use Rattle.listing.proofs.Cover.{pieces-owned}
@@ -80,10 +80,13 @@ module _ {m : List ℕ} {g : Geometry} (a : AcceptedMap m g) where
     abbrev early : Piece → Bool
     early p = not (late g id p)
 
-    passed-ascend : (t : Piece → Bool) (i j : ℕ) (p q : Pair) → i < j → At p i (places (passed t)) → At q j (places (passed t)) → p .start + p .len ≤ q .start
-    passed-ascend t i j p q h v w =
+    passed-apart : (t : Piece → Bool) → Apart 0 (discBits g) (places (passed t))
+    passed-apart t =
         let ps : List Piece = piecesOfZones g 0 (a .zones) in
-        apart-in-turn 0 (discBits g) h v w (kept-apart t 0 (discBits g) (piecesOf id ps) (kept-apart (isOf id) 0 (discBits g) ps pieces-apart))
+        kept-apart t 0 (discBits g) (piecesOf id ps) (kept-apart (isOf id) 0 (discBits g) ps pieces-apart)
+
+    passed-ascend : (t : Piece → Bool) (i j : ℕ) (p q : Pair) → i < j → At p i (places (passed t)) → At q j (places (passed t)) → p .start + p .len ≤ q .start
+    passed-ascend t i j p q h v w = apart-in-turn 0 (discBits g) h v w (passed-apart t)
 
     is-late : (i : ℕ) (q : Pair) → At q i (places (passed (late g id))) → startZone g id ≤ zoneOf g (q .start)
     is-late i q v =
@@ -103,10 +106,18 @@ module _ {m : List ℕ} {g : Geometry} (a : AcceptedMap m g) where
     in-order i j p q h (inr v) (inr w) =
         both-early (is-early (v .0) p (v .2)) (is-early (w .0) q (w .2)) (passed-ascend early (v .0) (w .0) p q (omega (arith, v .1, w .1)) (v .2) (w .2))
 
+    -- a place of the object's pieces is one of those from the start zone on, or one of those before it
+    in-parts : (i : ℕ) (q : Pair) → At q i (objectPairs g id (piecesOfZones g 0 (a .zones))) → InEither q i (places (passed (late g id))) (places (passed early))
+    in-parts i q v = in-either (places (passed (late g id))) (places (passed early)) (subst (At q i) (places-append (passed (late g id)) (passed early)) v)
+
     pub pieces-ascend : (i j : ℕ) (p q : Pair) → i < j → At p i (objectPairs g id (piecesOfZones g 0 (a .zones))) → At q j (objectPairs g id (piecesOfZones g 0 (a .zones)))
         → InObjectOrder g (startZone g id) p q
-    pieces-ascend i j p q h v w =
-        let ls : List Pair = places (passed (late g id)) in
-        let es : List Pair = places (passed early) in
-        let e : objectPairs g id (piecesOfZones g 0 (a .zones)) ≡ ls ++ es = places-append (passed (late g id)) (passed early) in
-        in-order i j p q h (in-either ls es (subst (At p i) e v)) (in-either ls es (subst (At q j) e w))
+    pieces-ascend i j p q h v w = in-order i j p q h (in-parts i p v) (in-parts j q w)
+
+    -- each has some bits
+    pub piece-some : (i : ℕ) (q : Pair) → At q i (objectPairs g id (piecesOfZones g 0 (a .zones))) → 0 < q .len
+    piece-some i q v = go (in-parts i q v)
+      where
+        go : InEither q i (places (passed (late g id))) (places (passed early)) → 0 < q .len
+        go (inl w) = apart-at 0 (discBits g) (w .1) (passed-apart (late g id)) .1
+        go (inr w) = apart-at 0 (discBits g) (w .2) (passed-apart early) .1

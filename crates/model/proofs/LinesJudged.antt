@@ -68,10 +68,10 @@ abbrev pub NoneGiven : List Refusing → Type 0
 NoneGiven [] = Unit {0}
 NoneGiven (l ∷ ls) = ((z : ℕ) → l .given z → ⊥) × NoneGiven ls
 
-not-answered : {A : Type 0} {n z : ℕ} {a : A} → refused n z ≡ answered a → ⊥
+pub not-answered : {A : Type 0} {n z : ℕ} {a : A} → refused n z ≡ answered a → ⊥
 not-answered e = let x : _≡_ {A = ℕ} 0 1 = cc in omega arith
 
-same-answer : {A : Type 0} {a b : A} → answered a ≡ answered b → a ≡ b
+pub same-answer : {A : Type 0} {a b : A} → answered a ≡ answered b → a ≡ b
 same-answer e = cc
 
 lines-answered : {A : Type 0} (ls : List Refusing) (a b : A) (r : Answer A) → r ≡ answered b → ByLines ls a r → (b ≡ a) × NoneGiven ls

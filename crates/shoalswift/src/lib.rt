@@ -11,7 +11,7 @@ ghost use mathlib.Core.Path.{_≡_};
 ghost use Rattle.model.specs.Check.{mapRead};
 ghost use Rattle.map.specs.Checked.{checked, checkTold};
 ghost use Rattle.listing.specs.Listed.{objectFound, freeFound, listNumbers};
-ghost use Rattle.address.specs.Address.{addressFound, addressTold};
+ghost use Rattle.address.specs.Address.{locationFound, addressTold};
 ghost use Rattle.sweep.specs.Sweep.{objectSweep, freeSweep, sweepNumbers};
 ghost use Rattle.shoalswift.specs.Geometry.{geometryNumbers};
 ghost use Rattle.shoalswift.specs.Told.{ListTold, SweepTold, ReleaseTold, PlaceTold, ClaimTold};
@@ -99,25 +99,28 @@ pub extern "C" fn shoalswift_free(
     pairs_told(r, pairs, zone)
 }
 
-// The disc address of a byte of a file.
+// Where a byte of a file lies, and how many bytes there are from it to its piece's end.
 #[no_mangle]
 pub extern "C" fn shoalswift_address(
     map: &[u8],
     n: u32,
     position: u64,
     address: &mut u64,
+    run: &mut u64,
     zone: &mut u32,
 ) -> u32
-    ensures { λ r. ⌜ (r, now (zone .exit), now (address .exit)) ≡ addressTold (addressFound (now (map .entry)) n position) ⌝ }
+    ensures { λ r. ⌜ (r, now (zone .exit), now (address .exit), now (run .exit)) ≡ addressTold (locationFound (now (map .entry)) n position) ⌝ }
 {
     match address::address(map, n, position) {
         Reached::At(l) => {
             *address = l.address;
+            *run = l.run;
             *zone = 0;
             0
         }
         Reached::Refused(r) => {
             *address = 0;
+            *run = 0;
             *zone = r.zone;
             r.number
         }

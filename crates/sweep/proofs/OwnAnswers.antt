@@ -1,17 +1,15 @@
 -- The laws of the sweeps' own answers: an answer is the class that the map shows (`ByTable`), and an object's class covers the bytes of
 -- the pieces that `list` answers, which in version 0 are those that `address` answers.
-use mathlib.Core.Path.{_≡_, refl, sym, ap, _∙_, subst}
+use mathlib.Core.Path.{_≡_, refl, sym, ap, _∙_}
 use mathlib.Core.Bool.{true, false}
 use mathlib.Core.List.{List}
-use Prim.Native.Nat.{ℕ, _+_, _*_, _%_, _^_, _<_, _≤_}
+use Prim.Native.Nat.{ℕ, _+_, _*_, _<_, _≤_}
 use native.Mathlib.Omega.{arith}
 use lib.Dec.{leb, ltb}
-use lib.Pow.{pow-mono}
-use borrow.Author.Tests.{leb-true, leb-false, ltb-true, ltb-false, eq-eqb}
+use borrow.Author.Tests.{leb-true, leb-false, ltb-true, ltb-false}
 use Rattle.bits.proofs.Tests.{by-test}
 use Rattle.geometry.specs.declared.Geometry.{Geometry}
 use Rattle.geometry.specs.Record.{versionOf, geometryOf}
-use Rattle.geometry.specs.Ranges.{longestId}
 use Rattle.model.specs.Answer.{answered}
 use Rattle.model.specs.Chain.{Pair}
 use Rattle.model.specs.Rules.{MapRules}
@@ -20,7 +18,7 @@ use Rattle.model.proofs.LinesJudged.{table-answered}
 use Rattle.listing.specs.Listed.{objectFound, freeFound}
 use Rattle.listing.proofs.OwnAnswers.{shown, list-shows, free-shows}
 use Rattle.address.specs.Address.{idOf, startOffset, at, seek, addressFound}
-use Rattle.address.proofs.OwnAnswers.{found, answers}
+use Rattle.address.proofs.OwnAnswers.{found, object-answers}
 use Rattle.sweep.specs.Sweep.{Class, covers, objectSweep, freeSweep}
 use Rattle.sweep.specs.Refusals.{objectClassOn}
 use Rattle.sweep.proofs.ByTable.{sweep-by-table, free-sweep-by-table}
@@ -32,22 +30,6 @@ inside low id end n =
     by-test (leb low id)
     (λ t. by-test (ltb id end) (λ u. (leb-true low id t, ltb-true id end u)) (λ u. absurd (n (λ k. omega (arith, k .1, ltb-false id end u)))))
     (λ t. absurd (n (λ k. omega (arith, k .0, leb-false low id t))))
-
--- in version 0 an object's number with low byte 0 is an internal number: its id has at most 15 bits
-number-low : (m : List ℕ) → MapRules m → versionOf m ≡ 0 → (id : ℕ) → id < (geometryOf m) .ids * (geometryOf m) .zones → id * 256 < 16777216
-number-low m w v id h =
-    let l : (geometryOf m) .idlen ≤ 15 = subst (λ (x : ℕ). (geometryOf m) .idlen ≤ longestId x) v (w .record-rules .fields .idlen-high) in
-    let p : 2 ^ (geometryOf m) .idlen ≤ 2 ^ 15 = pow-mono {i = (geometryOf m) .idlen} {j = 15} l in
-    omega (arith, w .record-rules .together .enough-ids)
-
--- and byte i of its file is byte i of the object
-file-byte : (m : List ℕ) (id i : ℕ)
-    → seek ((geometryOf m) .unit) (listedOn m (idOf (id * 256))) (startOffset (geometryOf m) (id * 256) + i) ≡ seek ((geometryOf m) .unit) (listedOn m id) i
-file-byte m id i =
-    let e : idOf (id * 256) ≡ id = omega arith in
-    let z : id * 256 % 256 ≡ 0 = omega arith in
-    let o : startOffset (geometryOf m) (id * 256) + i ≡ i = rw (eq-eqb (id * 256 % 256) 0 z) (omega arith) in
-    λ t. seek ((geometryOf m) .unit) (listedOn m (e t)) (o t)
 
 -- byte i of the pieces that `list` answers is that of the pieces that the map shows
 listed-byte : (m : List ℕ) (id room : ℕ) (qs : List Pair) → objectFound m id room ≡ answered qs
@@ -84,9 +66,7 @@ module _ (m : List ℕ) (id first n : ℕ) (c : Class) (e : objectSweep m id fir
   sweep-reaches v a h =
       let k = inside 3 id (g .ids * g .zones) (λ o. table-answered (sweep-by-table m id first n) e .none-given .0 0 (refl, o)) in
       let r = covered-shown a h in
-      let d : idOf (id * 256) ≡ id = omega arith in
-      let old : g .version ≡ 1 → ⊥ = λ p. omega arith in
-      (r .0, answers m (id * 256) (r .0) a rules old (number-low m rules v id (k .1)) (omega (arith, k .0)) (omega (arith, k .1)) (file-byte m id (r .0) ∙ r .1))
+      (r .0, object-answers m rules v id (omega (arith, k .0)) (k .1) (r .0) a (r .1))
 
   pub reached-swept : (k i a : ℕ) → idOf k ≡ id → addressFound m k i ≡ answered a → covers (c .unit) (c .pairs) a ≡ true
   reached-swept k i a o f =

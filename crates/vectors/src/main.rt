@@ -150,16 +150,19 @@ fn run_free(map: &[u8], list: &mut [u32]) {
 fn run_address(head: &[u8; 32], map: &[u8]) {
     let mut zone = 0;
     let mut address = 0;
+    let mut run = 0;
     let r = shoalswift::shoalswift_address(
         map,
         word(head, 4),
         long(head, 8),
         &mut address,
+        &mut run,
         &mut zone,
     );
     print_text(b"address");
     print_answer(r, zone);
     print_value(address);
+    print_value(run);
 }
 
 fn run_sweep_object(head: &[u8; 32], map: &[u8], image: &mut [u8]) {

@@ -62,7 +62,7 @@ fn cases(map: &[u8]) -> Vec<Case> {
     // The second has the low 16 bits of one that is there, the last is too high.
     let last = ids - checked.geometry.ids_per_zone as u32 + 7;
     cases.extend([last, last ^ 1 << 16, ids].map(|id| numbered(Call::List, map, id, 2)));
-    cases.extend([0x0007_00, last << 8, 1 << 24].map(|n| numbered(Call::Address, map, n, 0)));
+    cases.extend([0x000700, last << 8, 1 << 24].map(|n| numbered(Call::Address, map, n, 0)));
     released_and_placed(&mut cases, map, last);
     placed_and_released(&mut cases, &checked, map, ids / 3 * 2);
     claimed_and_released(&mut cases, map);

@@ -17,7 +17,7 @@ mod program;
 use product::Told;
 use program::Program;
 use reference::case::{Call, Case, Outcome, CALLS};
-use reference::generate::{play, Sizes};
+use reference::generate::{play, play_addresses, Sizes};
 use reference::geometry::{DiscRecord, LARGEST_MAP};
 use reference::map::{check, only_reserved_bytes_are_wrong, CheckedMap};
 
@@ -218,6 +218,11 @@ struct Tally {
     /// document 02).
     e_plus: u64,
     above_255_zones: u64,
+    /// Answered addresses where the object's next piece starts with the disc bit at
+    /// which the run ends, and those of them where it does so in the next zone (R-11
+    /// of document 02).
+    touching: u64,
+    touching_across_zones: u64,
     last_map: Vec<u8>,
     differences: u64,
     smallest: Option<Difference>,
@@ -232,6 +237,8 @@ impl Tally {
             dirty_records: 0,
             e_plus: 0,
             above_255_zones: 0,
+            touching: 0,
+            touching_across_zones: 0,
             last_map: Vec::new(),
             differences: 0,
             smallest: None,
@@ -249,6 +256,23 @@ impl Tally {
         }
         if case.call == Call::SweepFree {
             self.compare_sweeps(of, step, case, &theirs);
+        }
+        if case.call == Call::Address && ours.number == 0 {
+            self.count_touching(case, ours);
+        }
+    }
+
+    /// Counts an answered address if the object's next piece touches the asked one.
+    fn count_touching(&mut self, case: &Case, ours: &Outcome) {
+        let checked = check(&case.map).expect("a map that was accepted");
+        let touching = checked.touching_pieces(case.number / 256);
+        let run_end = ours.values[0] + ours.values[1];
+        for (piece, next) in touching.expect("an id that was accepted") {
+            let (disc_bit, _) = checked.pair(&next);
+            if disc_bit as u64 * checked.geometry.bytes_per_map_bit == run_end {
+                self.touching += 1;
+                self.touching_across_zones += u64::from(piece.zone != next.zone);
+            }
         }
     }
 
@@ -338,6 +362,11 @@ impl Tally {
             "{} maps with a dirty record, right in every other way",
             self.dirty_records
         );
+        println!(
+            "{} addresses answered where the next piece touches at the run's end, \
+             {} of them across a zone's end",
+            self.touching, self.touching_across_zones
+        );
     }
 
     /// What is wrong with the whole run, in lines; none where all agree and
@@ -371,6 +400,14 @@ impl Tally {
                 self.above_255_zones,
                 "no map of more than 255 zones was accepted",
             ),
+            (
+                self.touching,
+                "no address was answered where the next piece touches at the run's end",
+            ),
+            (
+                self.touching_across_zones,
+                "no address was answered where the next piece touches across a zone's end",
+            ),
         ] {
             if count == 0 {
                 lines.push(complaint.to_string());
@@ -402,7 +439,7 @@ fn compare(seeds: std::ops::Range<u64>, program: &mut Option<Program>) -> Tally 
     for seed in seeds {
         let of = format!("seed {seed}");
         let mut step = 0;
-        play(seed, &sizes, &mut |case, ours| {
+        let mut visit = |case: &Case, ours: &Outcome| {
             if trace {
                 eprintln!("{of}, call {step} of it: {}", case.call.name());
             }
@@ -416,7 +453,9 @@ fn compare(seeds: std::ops::Range<u64>, program: &mut Option<Program>) -> Tally 
             }
             tally.compare(&of, step, case, ours);
             step += 1;
-        });
+        };
+        play(seed, &sizes, &mut visit);
+        play_addresses(seed, &sizes, &mut visit);
     }
     tally
 }

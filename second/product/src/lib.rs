@@ -22,13 +22,13 @@ const UNWRITTEN: u64 = 0xDEAD_BEEF_DEAD_BEEF;
 
 /// The functions of one version of the product. As `LINKED` is made of those
 /// declared, the compiler sees that the types are today's. An earlier version
-/// with other signatures cannot be compared.
+/// with other signatures cannot be compared; of address see `opened`.
 #[derive(Clone, Copy)]
 pub struct Calls {
     check: unsafe extern "C" fn(*const u8, usize, *mut u32) -> u32,
     list: unsafe extern "C" fn(*const u8, usize, u32, *mut u32, usize, *mut u64, *mut u32) -> u32,
     free: unsafe extern "C" fn(*const u8, usize, *mut u32, usize, *mut u64, *mut u32) -> u32,
-    address: unsafe extern "C" fn(*const u8, usize, u32, u64, *mut u64, *mut u32) -> u32,
+    address: unsafe extern "C" fn(*const u8, usize, u32, u64, *mut u64, *mut u64, *mut u32) -> u32,
     sweep_object: unsafe extern "C" fn(
         *const u8,
         usize,
@@ -69,7 +69,7 @@ impl Calls {
         let (list, list_len) = (list.as_mut_ptr(), list.len());
         let (image, image_len) = (image.as_mut_ptr(), image.len());
         let (wide, fill, id) = (case.wide, case.fill, case.number);
-        let (mut zone, mut value) = (UNWRITTEN as u32, UNWRITTEN);
+        let (mut zone, mut value, mut run) = (UNWRITTEN as u32, UNWRITTEN, UNWRITTEN);
         let (mut new, mut start, mut length) = (zone, zone, zone);
         let (z, v) = (&mut zone, &mut value);
         // SAFETY: the functions have these types; each pointer and length are a
@@ -79,7 +79,7 @@ impl Calls {
                 Call::Check => (self.check)(map, map_len, z),
                 Call::List => (self.list)(map, map_len, id, list, list_len, v, z),
                 Call::Free => (self.free)(map, map_len, list, list_len, v, z),
-                Call::Address => (self.address)(map, map_len, id, wide, v, z),
+                Call::Address => (self.address)(map, map_len, id, wide, v, &mut run, z),
                 Call::SweepObject => {
                     (self.sweep_object)(map, map_len, image, image_len, wide, fill, id, v, z)
                 }
@@ -96,6 +96,7 @@ impl Calls {
         let values = match case.call.values() {
             0 => [0; 3],
             1 => [value, 0, 0],
+            2 => [value, run, 0],
             _ => [new, start, length].map(u64::from),
         };
         Answer {

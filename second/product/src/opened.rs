@@ -30,8 +30,8 @@ impl Calls {
     /// # Safety
     ///
     /// The file is a build of the product whose functions have the signatures
-    /// of today. No check could find another, so a version with one must not
-    /// be opened.
+    /// of today, but for address, which is not looked up. No check could find
+    /// another, so a version with one must not be opened.
     pub unsafe fn open(file: &str) -> Result<Calls, String> {
         let library = open(file)?;
         // SAFETY: the signatures are those of today, as the fields' types are.
@@ -40,7 +40,7 @@ impl Calls {
                 check: find(library, c"shoalswift_check")?,
                 list: find(library, c"shoalswift_list")?,
                 free: find(library, c"shoalswift_free")?,
-                address: find(library, c"shoalswift_address")?,
+                address: no_address,
                 sweep_object: find(library, c"shoalswift_sweep_object")?,
                 sweep_free: find(library, c"shoalswift_sweep_free")?,
                 release: find(library, c"shoalswift_release")?,
@@ -49,6 +49,21 @@ impl Calls {
             })
         }
     }
+}
+
+/// In place of the library's own address, which nobody calls, as `bench` does not
+/// time it: in a version from before R-11 of document 02 it has no run to write, and
+/// another signature.
+unsafe extern "C" fn no_address(
+    _map: *const u8,
+    _map_len: usize,
+    _n: u32,
+    _position: u64,
+    _address: *mut u64,
+    _run: *mut u64,
+    _zone: *mut u32,
+) -> u32 {
+    unreachable!("the address of an opened library is not called")
 }
 
 fn open(file: &str) -> Result<*mut c_void, String> {

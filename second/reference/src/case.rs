@@ -64,6 +64,7 @@ impl Call {
     pub fn values(self) -> usize {
         match self {
             Call::Check | Call::Place => 0,
+            Call::Address => 2,
             Call::Claim => 3,
             _ => 1,
         }
@@ -133,7 +134,9 @@ impl Case {
             Call::Check => map::check(&map).map(|_| vec![]),
             Call::List => one(read::list(&map, id, &mut list)),
             Call::Free => one(read::free(&map, &mut list)),
-            Call::Address => one(read::address(&map, id, wide)),
+            Call::Address => {
+                read::address(&map, id, wide).map(|location| vec![location.address, location.run])
+            }
             Call::SweepObject => one(read::sweep_object(&map, &mut image, wide, fill, id)),
             Call::SweepFree => one(read::sweep_free(&map, &mut image, wide, fill)),
             Call::Release => one(edit::release(&mut map, id, &mut list)),

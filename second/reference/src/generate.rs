@@ -1,6 +1,8 @@
 //! A deterministic generator: maps over all geometries of document 01, damage
 //! to them, arguments for each call, and runs of calls. A seed decides all.
 
+use std::ops::Range;
+
 use crate::case::{Call, Case, Outcome, CALLS};
 use crate::geometry::{
     DiscRecord, Edition, Geometry, MOST_ZONES, NZONES_HIGH, RESERVED, SIZE_HIGH, VERSION,
@@ -1276,6 +1278,83 @@ pub fn play(seed: u64, sizes: &Sizes, visit: &mut dyn FnMut(&Case, &Outcome)) {
                 visit(&case, &case.run());
             }
         }
+    }
+}
+
+/// Plays addresses of one seed, beside those of `play`: around one piece of a valid
+/// map, at its first byte, at one inside it, at its last byte, and at the byte after
+/// it, which is the next piece's first or past the object's end (R-11 of document
+/// 02). The map is of version 0, as "Address refuses E+ with 8".
+pub fn play_addresses(seed: u64, sizes: &Sizes, visit: &mut dyn FnMut(&Case, &Outcome)) {
+    // Not the map that `play` makes.
+    let mut rng = Rng::new(seed).aside();
+    let rng = &mut rng;
+    let largest_map = match rng.below(10) {
+        0 => sizes.map.min(8_192),
+        _ => sizes.map.min(2_048),
+    };
+    let record = record_of(rng, largest_map, Edition::E);
+    let map = valid_map(rng, &record);
+    let checked = check(&map).expect("a valid map");
+    let piece = some_piece(rng, &checked);
+    let Owner::Object(id) = piece.owner else {
+        unreachable!("an object's piece");
+    };
+    let bytes = bytes_of(&checked, id, &piece);
+
+    let sector_size = checked.geometry.sector_size as u64;
+    let low_byte = some_low_byte(rng, &bytes, sector_size);
+    let start_offset = low_byte.saturating_sub(1) * sector_size;
+    let inside = bytes.start + rng.word() % (bytes.end - bytes.start);
+    for byte in [bytes.start, inside, bytes.end - 1, bytes.end] {
+        // A start offset inside the piece leaves out those before it.
+        if byte >= start_offset {
+            let mut case = Case::new(Call::Address, &map);
+            case.number = id << 8 | low_byte as u32;
+            case.wide = byte - start_offset;
+            visit(&case, &case.run());
+        }
+    }
+}
+
+/// A piece of an object from 2 up: mostly one with another of the object right after
+/// it on the disc, every second time across a zone's end, where there are such.
+fn some_piece(rng: &mut Rng, checked: &CheckedMap) -> Fragment {
+    let of_object = |fragment: &Fragment| matches!(fragment.owner, Owner::Object(2..));
+    let mut pieces = checked.fragments();
+    let mut touching: Vec<(Fragment, Fragment)> =
+        pieces.windows(2).map(|two| (two[0], two[1])).collect();
+    pieces.retain(of_object);
+    touching.retain(|(piece, next)| of_object(piece) && piece.owner == next.owner);
+    let mut across = touching.clone();
+    across.retain(|(piece, next)| piece.zone != next.zone);
+
+    if !across.is_empty() && rng.percent(50) {
+        rng.pick(&across).0
+    } else if !touching.is_empty() && rng.percent(60) {
+        rng.pick(&touching).0
+    } else {
+        rng.pick(&pieces)
+    }
+}
+
+/// Which bytes of its object a piece has.
+fn bytes_of(checked: &CheckedMap, id: u32, piece: &Fragment) -> Range<u64> {
+    let pieces = checked.object(id).expect("an id on the map");
+    let earlier = pieces.iter().take_while(|other| *other != piece);
+    let before: usize = earlier.map(|other| other.length).sum();
+    let bytes = |map_bits: usize| map_bits as u64 * checked.geometry.bytes_per_map_bit;
+    bytes(before)..bytes(before + piece.length)
+}
+
+/// The low byte of an internal number: 0, or one whose start offset is where some
+/// bytes of the object start, or anywhere before they end.
+fn some_low_byte(rng: &mut Rng, bytes: &Range<u64>, sector_size: u64) -> u64 {
+    let at_sector = |byte: u64| (byte / sector_size + 1).min(255);
+    match rng.below(3) {
+        0 => 0,
+        1 => at_sector(bytes.start),
+        _ => rng.between(1, at_sector(bytes.end - 1) as usize) as u64,
     }
 }
 

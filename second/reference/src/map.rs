@@ -55,6 +55,20 @@ impl CheckedMap {
         Ok(pieces)
     }
 
+    /// The pieces of an object that touch its next one, each with that one: it starts
+    /// with the next disc bit, in the same zone or across the zone's end.
+    pub fn touching_pieces(&self, id: u32) -> Result<Vec<(Fragment, Fragment)>, Refusal> {
+        let disc_bit = |zone, block_bit| self.geometry.disc_bit(zone, block_bit);
+        let mut touching = Vec::new();
+        for two in self.object(id)?.windows(2) {
+            let (piece, next) = (two[0], two[1]);
+            if disc_bit(piece.zone, piece.end()) == disc_bit(next.zone, next.start) {
+                touching.push((piece, next));
+            }
+        }
+        Ok(touching)
+    }
+
     /// The free fragments, ascending by disc bit.
     pub fn free(&self) -> Vec<Fragment> {
         let mut spans = self.fragments();

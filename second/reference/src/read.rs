@@ -1,5 +1,5 @@
 //! The calls that leave the map alone: list, free, address and sweep
-//! (document 01, "The calls").
+//! (document 01, "The calls"; for address R-11 and R-12 of document 02 too).
 
 use crate::geometry::Edition;
 use crate::map::{check, CheckedMap, Fragment};
@@ -46,10 +46,21 @@ pub fn free(map: &[u8], list: &mut [u32]) -> Result<u64, Refusal> {
     hand_out(&checked, &checked.free(), list)
 }
 
-/// Turns an internal number and a position into a disc address. "Address refuses
-/// E+ with 8, because its internal numbers are another matter" (R-12 of document
-/// 02).
-pub fn address(map: &[u8], n: u32, position: u64) -> Result<u64, Refusal> {
+/// Where a byte of an object lies, and how far one may read from there.
+#[derive(Clone, Copy, Debug, PartialEq, Eq)]
+pub struct Location {
+    /// The disc address of the byte.
+    pub address: u64,
+    /// "how many bytes follow at consecutive disc addresses in the same piece, the
+    /// asked byte included" (R-11 of document 02).
+    pub run: u64,
+}
+
+/// Turns an internal number and a position into a disc address, with the run from
+/// there. "Touching pieces count as separate" (R-11 of document 02), so that the
+/// run ends with the byte's own piece. "Address refuses E+ with 8, because its
+/// internal numbers are another matter" (R-12).
+pub fn address(map: &[u8], n: u32, position: u64) -> Result<Location, Refusal> {
     let checked = check(map)?;
     let geometry = &checked.geometry;
     if geometry.edition == Edition::EPlus {
@@ -74,7 +85,11 @@ pub fn address(map: &[u8], n: u32, position: u64) -> Result<u64, Refusal> {
         let first = geometry.disc_bit(piece.zone, piece.start) as u64 * geometry.bytes_per_map_bit;
         let bytes = piece.length as u64 * geometry.bytes_per_map_bit;
         if offset < bytes as u128 {
-            return Ok(first + offset as u64);
+            let inside = offset as u64;
+            return Ok(Location {
+                address: first + inside,
+                run: bytes - inside,
+            });
         }
         offset -= bytes as u128;
     }

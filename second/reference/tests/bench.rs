@@ -5,7 +5,7 @@ use reference::generate::{map_690, map_a, map_b, map_floppy, map_of_eight_zones}
 use reference::geometry::{DiscRecord, Geometry};
 use reference::lines::lines;
 use reference::map::{check, zone_check_by_columns, zone_check_by_words};
-use reference::read::{address, free, list, sweep_free, sweep_object};
+use reference::read::{address, free, list, sweep_free, sweep_object, Location};
 use reference::Refusal;
 
 const PLAIN: fn(u32) -> Refusal = Refusal::plain;
@@ -95,12 +95,15 @@ fn a_claim() {
     assert_eq!(claimed(u64::MAX), Err(PLAIN(15)));
 }
 
+/// "the address examples gain this number: for map B, 0x000503 at 0 has 19,968" (R-11
+/// of document 02).
 #[test]
 fn b_address() {
     let map = map_b();
-    assert_eq!(address(&map, 0x000503, 0), Ok(12_800));
-    assert_eq!(address(&map, 0x000500, 19_967), Ok(32_255));
-    assert_eq!(address(&map, 0x000501, 19_967), Ok(32_255));
+    let found = |address, run| Ok(Location { address, run });
+    assert_eq!(address(&map, 0x000503, 0), found(12_800, 19_968));
+    assert_eq!(address(&map, 0x000500, 19_967), found(32_255, 513));
+    assert_eq!(address(&map, 0x000501, 19_967), found(32_255, 513));
     assert_eq!(address(&map, 0x000503, 19_968), Err(PLAIN(16)));
     assert_eq!(address(&map, 0x000503, u64::MAX - 511), Err(PLAIN(16)));
     assert_eq!(address(&map, 1 << 24, 0), Err(PLAIN(8)));

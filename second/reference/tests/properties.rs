@@ -5,11 +5,11 @@ use std::collections::BTreeMap;
 use reference::case::{Call, Case, CALLS};
 use reference::edit::{claim, place, release};
 use reference::generate::{
-    any_map, arguments, disc_record, map_a, objects, play, valid_map, Memory, Rng, Sizes,
+    any_map, arguments, disc_record, map_a, map_b, objects, play, valid_map, Memory, Rng, Sizes,
 };
 use reference::geometry::{DiscRecord, Edition, Geometry, LARGEST_MAP};
 use reference::map::{check, zone_check_by_columns, zone_check_by_words};
-use reference::read::{address, free, list, sweep_free, sweep_object};
+use reference::read::{address, free, list, sweep_free, sweep_object, Location};
 use reference::Refusal;
 
 const SIZES: Sizes = Sizes {
@@ -291,8 +291,8 @@ fn sweeps_agree_with_the_lists() {
         let geometry = checked.geometry;
         let bytes = geometry.bytes_per_map_bit;
         let window = 64u64;
-        let addressed = |address| match geometry.edition {
-            Edition::E => Ok(address),
+        let addressed = |address, run| match geometry.edition {
+            Edition::E => Ok(Location { address, run }),
             Edition::EPlus => Err(Refusal::plain(8)),
         };
         for id in objects(&checked).into_iter().filter(|id| *id >= 3).take(4) {
@@ -300,9 +300,9 @@ fn sweeps_agree_with_the_lists() {
             for piece in checked.object(id).unwrap().iter().take(6) {
                 let first = geometry.disc_bit(piece.zone, piece.start) as u64 * bytes;
                 let length = piece.length as u64 * bytes;
-                assert_eq!(address(&map, id << 8, position), addressed(first));
+                assert_eq!(address(&map, id << 8, position), addressed(first, length));
                 position += length;
-                let last = addressed(first + length - 1);
+                let last = addressed(first + length - 1, 1);
                 assert_eq!(address(&map, id << 8, position - 1), last);
 
                 let from = (first + length - 10).min(geometry.disc_size - window);
@@ -381,4 +381,11 @@ fn stored_form_of_a_case() {
         case.line(&case.run()),
         "place 0 0 map 0=40 1=24 65=88 67=128"
     );
+
+    // The address, then the run (R-11 of document 02).
+    let mut case = Case::new(Call::Address, &map_b());
+    case.number = 0x000503;
+    assert_eq!(case.line(&case.run()), "address 0 0 12800 19968");
+    case.wide = 19_968;
+    assert_eq!(case.line(&case.run()), "address 16 0 0 0");
 }

@@ -8,7 +8,7 @@ use Rattle.walk.proofs.ZonesRead.{reads-from}
 use Rattle.walk.proofs.Remains.{fewer}
 use Rattle.walk.specs.HeldBy.{heldLines, heldFrom}
 use Rattle.walk.proofs.HeldLines.{held-starts}
-use Rattle.address.specs.Address.{seek}
+use Rattle.address.specs.Address.{locate}
 use Rattle.address.proofs.SeekOn.{lines-end, line-found, line-past}
 use borrow.Author.Needs.{needs}
 use Rattle.address.proofs.seek_held.Statement.{statement}
@@ -16,7 +16,7 @@ use Rattle.address.proofs.seek_held.Tie as tie
 
 abbrev Inv-loop : tie.InvT-loop
 Inv-loop map g holder from to i unit left₀ w₀ left w =
-    Stands map g w × (seek (g .unit) (heldLines holder (remaining map g to w)) left ≡ seek (g .unit) (heldFrom g holder map from (to - from)) i)
+    Stands map g w × (locate (g .unit) (heldLines holder (remaining map g to w)) left ≡ locate (g .unit) (heldFrom g holder map from (to - from)) i)
 
 abbrev μ-loop : tie.MeasureT-loop
 μ-loop map g holder from to i unit left₀ w₀ left w = length (remaining map g to w)
@@ -25,7 +25,7 @@ loop-holds : tie.Need-loop-holds Inv-loop μ-loop
 loop-holds c =
     let s = c .before .before in
     let a = s .args in
-    (c .from-zone .ensures .stands, ap (λ r. seek (a .g .unit) r (a .i)) (held-starts (a .holder) (c .from-zone .ensures) (a .to) (s .pre .2)))
+    (c .from-zone .ensures .stands, ap (λ r. locate (a .g .unit) r (a .i)) (held-starts (a .holder) (c .from-zone .ensures) (a .to) (s .pre .2)))
 
 next-requires : tie.Need-next-requires Inv-loop μ-loop
 next-requires c κs =
@@ -39,7 +39,7 @@ returns c =
     let p = d .before .before .before in
     let s = p .before .before .before in
     line-found (s .args .holder) (d .next .ensures) (s .args .to) (s .pre .2) (d .before .if1 .taken) (s .args .g .unit) (p .loop .left) (p .loop .inv .1)
-    (c .before .before .before .seek-line .ensures) (c .before .x .given .1)
+    (c .before .before .before .seek-line .ensures) (c .before .l .given .1)
 
 loop-less : tie.Need-loop-less Inv-loop μ-loop
 loop-less c =

@@ -14,6 +14,9 @@ add-t12 c =
     let s = c .before .before .before in
     omega (arith, bytes-small (s .args .start .0) (s .args .unit) (c .struct-known .given .0 .fits) (s .pre), bytes-small (s .args .len) (s .args .unit) (s .fits .len .fits) (s .pre), c .before .if2 .taken)
 
+sub-t14 : tie.Need-sub-t14
+sub-t14 c = omega (arith, c .before .if2 .taken)
+
 returns : tie.Need-returns
 returns c = let a = c .before .before .before .args in wanted-at (a .unit) (a .wanted) (a .start .0) (a .len) (a .i) (c .before .before .if1 .taken) (c .before .if2 .taken)
 
@@ -31,6 +34,7 @@ seek-line-spec =
     (λ c. search needs)
     mul-t11
     add-t12
+    sub-t14
     returns
     returns-2
     returns-3)

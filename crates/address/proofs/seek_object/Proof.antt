@@ -8,7 +8,7 @@ returns : tie.Need-returns
 returns c =
     let q = c .before .before .before in
     let a = q .before .before .args in
-    in-late (a .g) (a .id) (a .map .now) (a .start) (a .i) (q .seek-held .ensures) (c .before .a .given .1)
+    in-late (a .g) (a .id) (a .map .now) (a .start) (a .i) (q .seek-held .ensures) (c .before .l .given .1)
 
 returns-2 : tie.Need-returns-2
 returns-2 c =
@@ -16,7 +16,7 @@ returns-2 c =
     let j = q2 .before .before in
     let q = j .before .before in
     let a = q .before .before .args in
-    in-early (a .g) (a .id) (a .map .now) (a .start) (a .i) (q .seek-held .ensures) (j .j .given .1) (q2 .seek-held2 .ensures) (c .before .a2 .given .1)
+    in-early (a .g) (a .id) (a .map .now) (a .start) (a .i) (q .seek-held .ensures) (j .j .given .1) (q2 .seek-held2 .ensures) (c .before .l2 .given .1)
 
 returns-3 : tie.Need-returns-3
 returns-3 c =

@@ -56,7 +56,7 @@ returns : tie.Need-returns
 returns c = record {
   checks = λ m r p. record { refused-told = λ n z e. p .numbers ∙ ap checkTold e; accepted-told = λ ess e. p .numbers ∙ ap checkTold e };
   lists = listed;
-  reaches = λ m n position r p. record { refused-told = λ k z e. p .numbers ∙ ap addressTold e; accepted-told = λ a e. p .numbers ∙ ap addressTold e };
+  reaches = λ m n position r p. record { refused-told = λ k z e. p .numbers ∙ ap addressTold e; accepted-told = λ l e. p .numbers ∙ ap addressTold e };
   sweeps = λ found first fill old r new p. record {
     refused-told = λ n z e. (p .numbers ∙ ap (sweepTold first (length old)) e, p .image ∙ ap (imageAfter first fill old) e);
     accepted-told = λ k e. (p .numbers ∙ ap (sweepTold first (length old)) e, p .image ∙ ap (imageAfter first fill old) e);

@@ -61,14 +61,15 @@ fn claims(cases: &mut Cases) {
     cases.claim(&a, 1_560_577).gives(15);
 }
 
-/// "B, address".
+/// "B, address", with the run that R-11 of document 02 adds: "for map B, 0x000503
+/// at 0 has 19,968". Object 5 ends with address 32,767.
 fn addresses(cases: &mut Cases) {
     let b = map_b();
-    cases.address(&b, 0x000503, 0).answers(&[12_800]);
-    cases.address(&b, 0x000500, 19_967).answers(&[32_255]);
-    cases.address(&b, 0x000501, 19_967).answers(&[32_255]);
+    cases.address(&b, 0x000503, 0).answers(&[12_800, 19_968]);
+    cases.address(&b, 0x000500, 19_967).answers(&[32_255, 513]);
+    cases.address(&b, 0x000501, 19_967).answers(&[32_255, 513]);
     cases.address(&b, 0x000503, 19_968).gives(16);
-    cases.address(&b, 0x000503, 19_967).answers(&[32_767]);
+    cases.address(&b, 0x000503, 19_967).answers(&[32_767, 1]);
 }
 
 /// "B, sweep of 5", and the same stretches swept of what is free.
@@ -161,7 +162,7 @@ fn floppy(cases: &mut Cases) {
     cases.free(&map, 2).pairs(&[48, 6_352]);
     cases.list(&map, 429, 2).gives(10);
     cases.list(&map, 430, 2).gives(8);
-    cases.address(&map, 9 << 8 | 2, 1_023).answers(&[6_143]);
+    cases.address(&map, 9 << 8 | 2, 1_023).answers(&[6_143, 1]);
     cases.address(&map, 9 << 8 | 2, 1_024).gives(16);
     cases.sweep_free(&map, 819_200 - 100, 100).answers(&[100]);
     let first = 32 * 128 - 10;

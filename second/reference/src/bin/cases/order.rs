@@ -94,8 +94,8 @@ fn touching_free_is_no_matter_to_readers(cases: &mut Cases) {
     cases.list(&map, 7, 6).done();
     let first = 1_020 * 512 - 1_000;
     cases.sweep_free(&map, first, 2_000).answers(&[1_000]);
-    let address = (1_536 + 12) * 512;
-    cases.address(&map, 0x0700, 20 * 512).answers(&[address]);
+    let answer = [(1_536 + 12) * 512, 20 * 512];
+    cases.address(&map, 0x0700, 20 * 512).answers(&answer);
 }
 
 /// "then the rest in table order": 8, 10, 17.

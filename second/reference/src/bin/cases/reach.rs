@@ -29,7 +29,7 @@ groups![
 /// to P*nzones-1.
 fn internal_numbers(cases: &mut Cases) {
     let b = map_b();
-    cases.address(&b, 0x000200, 12_287).answers(&[12_287]);
+    cases.address(&b, 0x000200, 12_287).answers(&[12_287, 1]);
     for n in [
         0x0000FF,
         0x000100,
@@ -46,7 +46,7 @@ fn internal_numbers(cases: &mut Cases) {
 /// by itself: object 5 has 80 sectors, object 2 has 48.
 fn start_offsets(cases: &mut Cases) {
     let b = map_b();
-    cases.address(&b, 0x000550, 255).answers(&[32_767]);
+    cases.address(&b, 0x000550, 255).answers(&[32_767, 1]);
     cases.address(&b, 0x000551, 0).gives(16);
     cases.address(&b, 0x000231, 0).gives(16);
 }
@@ -55,8 +55,8 @@ fn start_offsets(cases: &mut Cases) {
 fn start_offsets_of_larger_sectors(cases: &mut Cases) {
     let zone = vec![object(2, 16), free(3_552), object(5, 16)];
     let map = build(&clusters_of_four(1), &[zone]);
-    let first = 3_568 * 128;
-    cases.address(&map, 0x000504, 511).answers(&[first + 2_047]);
+    let last = 3_584 * 128 - 1;
+    cases.address(&map, 0x000504, 511).answers(&[last, 1]);
     let zone = vec![object(2, 16), free(7_640), object(5, 24)];
     let map = build(&clusters_of_eight(1), &[zone]);
     cases.address(&map, 0x000504, 0).gives(16);
@@ -77,19 +77,31 @@ fn positions_that_wrap(cases: &mut Cases) {
 }
 
 /// "The object's bytes are its pieces joined in order": the edges of object
-/// 690's pieces of 40, 12, 1016, 20, 30, 12, 16, 2016 map bits.
+/// 690's pieces, by disc bit and length, the last of which fills zone 3.
 fn address_across_pieces(cases: &mut Cases) {
     let map = map_690();
     let mut position = 0;
-    for length in [40, 12, 1_016, 20, 30, 12, 16, 2_016] {
-        cases.address(&map, 690 << 8, position).done();
+    for (disc_bit, length) in [
+        (7_608, 40),
+        (7_748, 12),
+        (12_616, 1_016),
+        (0, 20),
+        (32, 30),
+        (162, 12),
+        (4_052, 16),
+        (5_568, 2_016),
+    ] {
+        let answer = [disc_bit * 1_024, length * 1_024];
+        cases.address(&map, 690 << 8, position).answers(&answer);
         position += length * 1_024;
     }
-    cases.address(&map, 690 << 8, position - 1).done();
+    let last = [7_584 * 1_024 - 1, 1];
+    cases.address(&map, 690 << 8, position - 1).answers(&last);
     cases.address(&map, 690 << 8, position).gives(16);
     let n = 690 << 8 | 0xFF;
     cases.address(&map, n, position - 254 * 256).gives(16);
-    cases.address(&map, n, position - 254 * 256 - 1).done();
+    let position = position - 254 * 256 - 1;
+    cases.address(&map, n, position).answers(&last);
 }
 
 /// "its pieces joined in order": the last byte of one and the first of the
@@ -99,16 +111,18 @@ fn address_in_object_order(cases: &mut Cases) {
     let position = (32 + 34) * 1_024;
     let n = 600 << 8;
     let last = 5_728 * 1_024 - 1;
-    cases.address(&map, n, position - 1).answers(&[last]);
-    cases.address(&map, n, position).answers(&[0]);
+    cases.address(&map, n, position - 1).answers(&[last, 1]);
+    cases.address(&map, n, position).answers(&[0, 20 * 1_024]);
     let position = (12 + 30) * 1_024;
     let n = 2 << 8;
-    cases.address(&map, n, position).answers(&[1_638 * 1_024]);
+    let answer = [1_638 * 1_024, 35 * 1_024];
+    cases.address(&map, n, position).answers(&answer);
     // The start offset alone reaches the second piece: 254 sectors are 63
-    // map bits and two sectors.
+    // map bits and two sectors. 34 - 31 map bits less two sectors are left.
     let n = 600 << 8 | 0xFF;
     let address = (5_694 + 63 - 32) * 1_024 + 512;
-    cases.address(&map, n, 0).answers(&[address]);
+    let run = (34 - 31) * 1_024 - 512;
+    cases.address(&map, n, 0).answers(&[address, run]);
 }
 
 /// Three zones with map bits of 128 bytes, so that a stretch spans pieces:

@@ -211,7 +211,7 @@ fn addresses(cases: &mut Cases) {
     let n = WRAPPING << 8 | 0xFF;
     let last = first(200) as u64 * 1_024 - 1;
     let position = 222 * 1_024 - 254 * 256;
-    cases.address(&map, n, position - 1).answers(&[last]);
+    cases.address(&map, n, position - 1).answers(&[last, 1]);
     cases.address(&map, n, position).gives(16);
 }
 
