@@ -4,14 +4,18 @@
 //!
 //! NUMBER is the file's internal number, in hexadecimal. From its first byte to
 //! the end of its object everything is copied: the map does not know how long
-//! the file is. FILE must not be there yet.
+//! the file is. FILE must not be there yet, and is made only if every call was
+//! accepted and the image holds all of that.
 //! Exit status: 0 done, 1 refused, 2 anything else.
+
+mod failure;
 
 use std::env;
 use std::fs::{self, File};
 use std::io::{self, Read, Seek, SeekFrom};
 use std::process::ExitCode;
 
+use failure::{of, status, Failure};
 use shoalswift::{address, Location, Reason, Refusal};
 
 struct Arguments {
@@ -34,18 +38,6 @@ fn arguments() -> Option<Arguments> {
     })
 }
 
-/// Why the file was not copied.
-enum Failure {
-    Refused(Refusal),
-    /// Told with the file's name.
-    File(String),
-}
-
-/// An error of a file's, with its name.
-fn of<T>(path: &str, answer: io::Result<T>) -> Result<T, Failure> {
-    answer.map_err(|error| Failure::File(format!("{path}: {error}")))
-}
-
 /// Where the file's bytes lie, a run for each piece: each question takes up
 /// where the last run ended, until the object has ended.
 fn runs(map: &[u8], number: u32) -> Result<Vec<Location>, Refusal> {
@@ -63,30 +55,29 @@ fn runs(map: &[u8], number: u32) -> Result<Vec<Location>, Refusal> {
     }
 }
 
-/// Copies one run to the end of the file.
-fn copy_run(
-    wanted: &Arguments,
-    image: &mut File,
-    to: &mut File,
-    run: &Location,
-) -> Result<(), Failure> {
-    of(&wanted.image, image.seek(SeekFrom::Start(run.address)))?;
-    let both = format!("{} to {}", wanted.image, wanted.file);
-    let copied = of(&both, io::copy(&mut image.take(run.run), to))?;
+/// Copies one run to the end of a file.
+fn copy_run(image: &mut File, to: &mut File, run: &Location) -> io::Result<()> {
+    image.seek(SeekFrom::Start(run.address))?;
+    let copied = io::copy(&mut image.take(run.run), to)?;
     if copied < run.run {
-        let text = format!("the image ends at {}", run.address + copied);
-        return Err(Failure::File(format!("{}: {text}", wanted.image)));
+        return Err(io::ErrorKind::UnexpectedEof.into());
     }
     Ok(())
 }
 
 fn copy(wanted: &Arguments) -> Result<(), Failure> {
     let map = of(&wanted.map, fs::read(&wanted.map))?;
-    let runs = runs(&map, wanted.number).map_err(Failure::Refused)?;
+    let runs = runs(&map, wanted.number)?;
     let mut image = of(&wanted.image, File::open(&wanted.image))?;
+    let end = of(&wanted.image, image.seek(SeekFrom::End(0)))?;
+    if runs.iter().any(|run| run.address + run.run > end) {
+        let text = "the image ends before the object does";
+        return Err(Failure::File(format!("{}: {text}", wanted.image)));
+    }
     let mut to = of(&wanted.file, File::create_new(&wanted.file))?;
+    let both = format!("{} to {}", wanted.image, wanted.file);
     for run in &runs {
-        copy_run(wanted, &mut image, &mut to, run)?;
+        of(&both, copy_run(&mut image, &mut to, run))?;
         println!("{} bytes from {}", run.run, run.address);
     }
     of(&wanted.file, to.sync_all())?;
@@ -100,15 +91,5 @@ fn main() -> ExitCode {
         eprintln!("usage: copy MAP IMAGE NUMBER FILE (NUMBER in hexadecimal)");
         return ExitCode::from(2);
     };
-    match copy(&wanted) {
-        Ok(()) => ExitCode::SUCCESS,
-        Err(Failure::Refused(refusal)) => {
-            println!("refused: {}: {refusal}", wanted.map);
-            ExitCode::from(1)
-        }
-        Err(Failure::File(text)) => {
-            eprintln!("failed: {text}");
-            ExitCode::from(2)
-        }
-    }
+    status(&wanted.map, copy(&wanted))
 }

@@ -7,11 +7,14 @@
 //! written, in place, synced and read back; then the map, in the same way.
 //! Exit status: 0 done, 1 refused, 2 anything else.
 
+mod failure;
+
 use std::env;
 use std::fs::{self, File};
 use std::io::{self, Read, Seek, SeekFrom, Write};
 use std::process::ExitCode;
 
+use failure::{of, status, Failure};
 use shoalswift::{free, geometry, list, release, sweep_object, Reason, Refusal};
 
 /// How much of a piece is held in memory at a time.
@@ -35,24 +38,6 @@ fn arguments() -> Option<Arguments> {
         id: id.parse().ok()?,
         fill: fill.parse().ok()?,
     })
-}
-
-/// Why nothing, or not everything, was done.
-enum Failure {
-    Refused(Refusal),
-    /// Told with the file's name.
-    File(String),
-}
-
-impl From<Refusal> for Failure {
-    fn from(refusal: Refusal) -> Failure {
-        Failure::Refused(refusal)
-    }
-}
-
-/// An error of a file's, with its name.
-fn of<T>(path: &str, answer: io::Result<T>) -> Result<T, Failure> {
-    answer.map_err(|error| Failure::File(format!("{path}: {error}")))
 }
 
 /// Calls with a small list, then with longer ones while it is too short. A
@@ -205,15 +190,5 @@ fn main() -> ExitCode {
         eprintln!("usage: wipe MAP IMAGE ID FILL (FILL from 0 to 255)");
         return ExitCode::from(2);
     };
-    match wipe(&wanted) {
-        Ok(()) => ExitCode::SUCCESS,
-        Err(Failure::Refused(refusal)) => {
-            println!("refused: {}: {refusal}", wanted.map);
-            ExitCode::from(1)
-        }
-        Err(Failure::File(text)) => {
-            eprintln!("failed: {text}");
-            ExitCode::from(2)
-        }
-    }
+    status(&wanted.map, wipe(&wanted))
 }

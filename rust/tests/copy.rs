@@ -106,6 +106,7 @@ fn a_failure_names_its_file() {
         assert_eq!(status, Some(2));
         let begin = format!("failed: {}: ", named.display());
         assert!(text.starts_with(&begin), "{text}");
+        assert!(!file.exists());
     }
     // A file that is there stays as it is.
     let bytes = fs::read(&image).unwrap();
