@@ -61,8 +61,8 @@ module _ (unit : ℕ) (ask : ℕ → Answer Location) where
   abbrev Answers : List Pair → ℕ → ℕ → Type 0
   Answers qs p x = (y : ℕ) → ask (p + y) ≡ within (locate unit qs (x + y))
 
-  now : (qs : List Pair) (p x : ℕ) → Answers qs p x → ask p ≡ within (locate unit qs x)
-  now qs p x s = ap ask (sym (add-zero p)) ∙ s 0 ∙ ap (λ (i : ℕ). within (locate unit qs i)) (add-zero x)
+  asked-here : (qs : List Pair) (p x : ℕ) → Answers qs p x → ask p ≡ within (locate unit qs x)
+  asked-here qs p x s = ap ask (sym (add-zero p)) ∙ s 0 ∙ ap (λ (i : ℕ). within (locate unit qs i)) (add-zero x)
 
   -- it goes on behind the first pair
   answers-behind : (q : Pair) (qs : List Pair) (p x d y : ℕ) → x + d ≡ q .len * unit + y → Answers (q ∷ qs) p x → Answers qs (p + d) y
@@ -72,7 +72,7 @@ module _ (unit : ℕ) (ask : ℕ → Answer Location) where
 
   walk : (qs : List Pair) (asks p x : ℕ) → length qs ≤ asks → Answers qs p x → copied ask asks p ≡ drop x (joined unit qs)
   walk [] zero p x h s = sym (drop-nil x)
-  walk [] (suc asks) p x h s = ap (λ r. readRun r (λ (l : Location). copied ask asks (p + l .run))) (now [] p x s) ∙ sym (drop-nil x)
+  walk [] (suc asks) p x h s = ap (λ r. readRun r (λ (l : Location). copied ask asks (p + l .run))) (asked-here [] p x s) ∙ sym (drop-nil x)
   walk (q ∷ qs) zero p x h s = absurd (omega arith)
   walk (q ∷ qs) (suc asks) p x h s =
       let n : ℕ = q .len * unit in
@@ -80,7 +80,7 @@ module _ (unit : ℕ) (ask : ℕ → Answer Location) where
       let k : length these ≡ n = length-addresses (q .start * unit) n in
       by-test (ltb x n)
       (λ t. let u = ltb-true x n t in
-      let read : ask p ≡ answered (byteOf unit q x) = now (q ∷ qs) p x s ∙ rw t in
+      let read : ask p ≡ answered (byteOf unit q x) = asked-here (q ∷ qs) p x s ∙ rw t in
       ap (λ r. readRun r (λ (l : Location). copied ask asks (p + l .run))) read
       ∙ ap (λ r. addressesFrom (q .start * unit + x) (n - x) ++ r) (walk qs asks (p + (n - x)) 0 (omega arith) (answers-behind q qs p x (n - x) 0 (omega arith) s))
       ∙ sym (drop-append-le x these (joined unit qs) (omega arith) ∙ ap (λ (r : List ℕ). r ++ joined unit qs) (drop-addresses (q .start * unit) n x)))

@@ -24,8 +24,7 @@ use Rattle.map.proofs.Accepts.{ReadInTurn, zones-in-turn}
 use Rattle.listing.proofs.Filled.{Fills, entries-fill}
 use Rattle.listing.proofs.ObjectOrder.{places}
 use Rattle.address.specs.Address.{at, seek}
-use Rattle.address.proofs.Joined.{never-at}
-use Rattle.address.proofs.OneToOne.{same-address}
+use Rattle.address.proofs.Joined.{never-at, same-byte}
 
 -- pieces that end at or before a bit: all of them, or all that 1 does not own
 abbrev EndBy : ℕ → List Piece → Type 0
@@ -61,7 +60,7 @@ seek-below unit end (p ∷ ps) h i a e =
     let l : ℕ = p .at .len * unit in
     by-test (ltb i l)
     (λ t. let k : (p .at .start + p .at .len) * unit ≤ end * unit = mul-le-mul-right unit (h .0) in
-    omega (arith, ltb-true i l t, same-address (p .at .start * unit + i) a (rw t at e)))
+    omega (arith, ltb-true i l t, same-byte (p .at .start * unit + i) a (rw t at e)))
     (λ t. seek-below unit end ps (h .1) (i - l) a (rw t at e))
 
 -- a zone's pieces, in disc bits

@@ -1,5 +1,5 @@
 -- A byte that is found lies in one of the pairs, and so do all bytes of its run; after them comes the next pair's first byte.
-use mathlib.Core.Path.{_≡_, refl, ap, _∙_}
+use mathlib.Core.Path.{_≡_, refl, sym, ap, _∙_}
 use mathlib.Core.List.{List, [], _∷_}
 use Prim.Native.Nat.{ℕ, suc, _+_, _-_, _*_, _<_}
 use native.Mathlib.Omega.{arith}
@@ -11,10 +11,7 @@ use Rattle.model.specs.Chain.{Pair}
 use Rattle.listing.specs.Laws.{At, first, later}
 use Rattle.address.specs.declared.Location.{Location}
 use Rattle.address.specs.Address.{at, locate}
-use Rattle.address.proofs.Joined.{never-at}
-
-same-location : (k l : Location) → at k ≡ at l → l ≡ k
-same-location k l e = cc
+use Rattle.address.proofs.Joined.{never-at, same-byte}
 
 pub at-drop : {q : Pair} {k : ℕ} {qs : List Pair} → At q k qs → drop k qs ≡ q ∷ drop (suc k) qs
 at-drop first = refl
@@ -57,7 +54,7 @@ module _ (unit : ℕ) where
         x = i;
         sum = omega arith;
         inside = ltb-true i n t;
-        value = same-location (byteOf q i) l (rw t at e);
+        value = sym (same-byte (byteOf q i) l (rw t at e));
         bytes = λ y h. let z : 0 + y ≡ y = omega arith in ap (locate unit (q ∷ qs)) z ∙ rw (lt-ltb y n h);
         after = behind q qs (0 + n) 0 (omega arith);
       })

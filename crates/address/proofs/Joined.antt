@@ -42,6 +42,9 @@ in-second xs ys l i e h =
 pub never-at : {A : Type 0} (i : ℕ) (a : A) → past i ≡ at a → ⊥
 never-at i a e = let x : _≡_ {A = ℕ} 0 1 = cc in omega arith
 
+pub same-byte : {A : Type 0} (a b : A) → at a ≡ at b → a ≡ b
+same-byte a b e = cc
+
 module _ (unit : ℕ) where
   length-joined : (q : Pair) (qs : List Pair) → length (joined unit (q ∷ qs)) ≡ q .len * unit + length (joined unit qs)
   length-joined q qs =

@@ -16,10 +16,7 @@ use Rattle.listing.specs.Laws.{first}
 use Rattle.listing.proofs.Hits.{hit, hits, hit-at}
 use Rattle.listing.proofs.Cover.{object-once}
 use Rattle.address.specs.Address.{at, seek}
-use Rattle.address.proofs.Joined.{never-at}
-
-pub same-address : (a b : ℕ) → at a ≡ at b → a ≡ b
-same-address a b e = cc
+use Rattle.address.proofs.Joined.{never-at, same-byte}
 
 module _ (unit : ℕ) (some : 0 < unit) where
   -- an address of a pair lies in one of its bits
@@ -33,7 +30,7 @@ module _ (unit : ℕ) (some : 0 < unit) where
   seek-hit [] i a e = absurd (never-at i a e)
   seek-hit (q ∷ qs) i a e =
       by-test (ltb i (q .len * unit))
-      (λ t. let k : q .start * unit + i ≡ a = same-address (q .start * unit + i) a (rw t at e) in
+      (λ t. let k : q .start * unit + i ≡ a = same-byte (q .start * unit + i) a (rw t at e) in
       let h = pair-hit q i (ltb-true i (q .len * unit) t) in
       omega (arith, rw k at h))
       (λ t. omega (arith, seek-hit qs (i - q .len * unit) a (rw t at e)))
@@ -43,14 +40,14 @@ module _ (unit : ℕ) (some : 0 < unit) where
   seek-once (q ∷ qs) h i j a e f =
       let l : ℕ = q .len * unit in
       by-test (ltb i l)
-      (λ t. let k : q .start * unit + i ≡ a = same-address (q .start * unit + i) a (rw t at e) in
+      (λ t. let k : q .start * unit + i ≡ a = same-byte (q .start * unit + i) a (rw t at e) in
       let here : 0 < hit (a / unit) q = rw k at (pair-hit q i (ltb-true i l t)) in
       by-test (ltb j l)
-      (λ u. omega (arith, same-address (q .start * unit + j) a (rw u at f)))
+      (λ u. omega (arith, same-byte (q .start * unit + j) a (rw u at f)))
       (λ u. absurd (omega (arith, h (a / unit), seek-hit qs (j - l) a (rw u at f)))))
       (λ t. let later : 0 < hits (a / unit) qs = seek-hit qs (i - l) a (rw t at e) in
       by-test (ltb j l)
-      (λ u. let k : q .start * unit + j ≡ a = same-address (q .start * unit + j) a (rw u at f) in
+      (λ u. let k : q .start * unit + j ≡ a = same-byte (q .start * unit + j) a (rw u at f) in
       let here : 0 < hit (a / unit) q = rw k at (pair-hit q j (ltb-true j l u)) in
       absurd (omega (arith, h (a / unit))))
       (λ u. omega (arith, ltb-false i l t, ltb-false j l u, seek-once qs (λ d. omega (arith, h d)) (i - l) (j - l) a (rw t at e) (rw u at f))))

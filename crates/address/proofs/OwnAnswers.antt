@@ -32,8 +32,8 @@ use Rattle.address.specs.Address.{idOf, startOffset, at, locate, address
 use Rattle.address.specs.Refusals.{joined, bytesLong, byteAddress, byteLocation}
 use Rattle.address.proofs.Bounds.{whole-object}
 use Rattle.address.proofs.ByTable.{fits, address-by-table}
-use Rattle.address.proofs.Joined.{never-at, length-total, located, joined-found, joined-ends}
-use Rattle.address.proofs.OneToOne.{same-address, seek-hit, object-one-to-one}
+use Rattle.address.proofs.Joined.{never-at, same-byte, length-total, located, joined-found, joined-ends}
+use Rattle.address.proofs.OneToOne.{seek-hit, object-one-to-one}
 use Rattle.address.proofs.DiscEnd.{object-on-disc}
 
 -- In version 0 an object's number with low byte 0 is an internal number: its id has at most 15 bits
@@ -104,7 +104,7 @@ module _ (m : List ℕ) where
       let qs : List Pair = listedOn m (idOf n) in
       let i : ℕ = startOffset g n + position in
       let b : i < length (joined (g .unit) qs) = joined-ends (g .unit) qs i a e in
-      let same : byteAddress m n position ≡ a = same-address (byteAddress m n position) a (sym (joined-found (g .unit) qs i b) ∙ e) in
+      let same : byteAddress m n position ≡ a = same-byte (byteAddress m n position) a (sym (joined-found (g .unit) qs i b) ∙ e) in
       let f : locationFound m n position ≡ answered (byteLocation m n position) =
       address-by-table m n position .only (answered (byteLocation m n position))
       (by-lines _ w
