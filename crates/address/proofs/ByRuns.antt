@@ -191,7 +191,6 @@ pub run-in-piece : (m : List ℕ) (n position : ℕ) (l : Location) → location
     → (k : ℕ) × (q : Pair) × At q k qs × RunIn m n position l qs k q
 run-in-piece m n position l e room qs f =
     let h = here m n position l e in
-    let u : ℕ = (geometryOf m) .unit in
     subst (λ (x : List Pair). (k : ℕ) × (q : Pair) × At q k x × RunIn m n position l x k q) (sym (list-shows m (idOf n) room qs f)) (
       h .place,
       h .pair,
