@@ -1,8 +1,9 @@
 /* Shoalswift: maps of discs in Acorn's E and E+ formats.
  *
  * Every function answers a refusal number, 0 where the call is accepted. *zone is always written: the zone told, or 0. Every other
- * number handed in by pointer is always written too, 0 where the call is refused. A refused call changes no byte of map, image or
- * list. No function keeps a pointer, allocates, or has state; calls on different maps may run at the same time.
+ * number handed in by pointer is always written too, 0 where the call is refused (but for *equal, which is told all the same). A refused
+ * call changes no byte of map, image or list. No function keeps a pointer, allocates, or has state; calls on different maps may run at
+ * the same time.
  *
  * What a caller owes: each pointer with a length is valid for that many elements (it may be any non-null, aligned pointer where the
  * length is 0), each pointer to a number is valid, and nothing that is written overlaps anything else that is handed in. There
@@ -38,6 +39,9 @@
  *  shoalswift_release         20480
  *  shoalswift_place           20480
  *  shoalswift_claim           20480
+ *  shoalswift_choose_copy      1024
+ *  shoalswift_copy_over        1024
+ *  shoalswift_copy_addresses   1024
  */
 #ifndef SHOALSWIFT_H
 #define SHOALSWIFT_H
@@ -47,9 +51,9 @@
 
 /* A new major number: callers have to change. A new minor number: there is more to call. */
 #define SHOALSWIFT_VERSION_MAJOR 1
-#define SHOALSWIFT_VERSION_MINOR 0
+#define SHOALSWIFT_VERSION_MINOR 1
 #define SHOALSWIFT_VERSION_PATCH 0
-#define SHOALSWIFT_VERSION "1.0.0"
+#define SHOALSWIFT_VERSION "1.1.0"
 
 #ifdef __cplusplus
 extern "C" {
@@ -94,6 +98,19 @@ uint32_t shoalswift_place(uint8_t *map, size_t map_len, uint32_t id, const uint3
 /* Gives the first hole that is long enough for size bytes to the lowest unused id. Further: 9, 12 (0 bytes), 15. */
 uint32_t shoalswift_claim(uint8_t *map, size_t map_len, uint64_t size, uint32_t *id, uint32_t *start, uint32_t *length,
                           uint32_t *zone);
+
+/* A disc has its map twice. Chooses of two copies the one that is an accepted map: *which is 1 for the first if that is accepted, else 2
+ * for the second if that is; else the first's refusal is answered and *which is 0. *equal is 1 where the copies are byte for byte equal
+ * and else 0, whether or not they are accepted. 1 to 7. */
+uint32_t shoalswift_choose_copy(const uint8_t *first, size_t first_len, const uint8_t *second, size_t second_len, uint32_t *which,
+                                uint32_t *equal, uint32_t *zone);
+
+/* Writes an accepted map over another copy, whatever that holds. The source's refusal, 1 to 7; then 1 where the lengths differ. */
+uint32_t shoalswift_copy_over(const uint8_t *source, size_t source_len, uint8_t *target, size_t target_len, uint32_t *zone);
+
+/* The disc addresses of an accepted map's two copies: *first is that of the middle zone's first map bit, *second lies straight after the
+ * first copy's bytes. 1 to 7. */
+uint32_t shoalswift_copy_addresses(const uint8_t *map, size_t map_len, uint64_t *first, uint64_t *second, uint32_t *zone);
 
 #ifdef __cplusplus
 }

@@ -86,4 +86,27 @@ extern "C" {
         length: *mut u32,
         zone: *mut u32,
     ) -> u32;
+    pub fn shoalswift_choose_copy(
+        first: *const u8,
+        first_len: usize,
+        second: *const u8,
+        second_len: usize,
+        which: *mut u32,
+        equal: *mut u32,
+        zone: *mut u32,
+    ) -> u32;
+    pub fn shoalswift_copy_over(
+        source: *const u8,
+        source_len: usize,
+        target: *mut u8,
+        target_len: usize,
+        zone: *mut u32,
+    ) -> u32;
+    pub fn shoalswift_copy_addresses(
+        map: *const u8,
+        map_len: usize,
+        first: *mut u64,
+        second: *mut u64,
+        zone: *mut u32,
+    ) -> u32;
 }

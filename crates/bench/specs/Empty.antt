@@ -1,7 +1,7 @@
 -- Which empty programs the contracts shut out (document 01, "Which empty programs each statement shuts out"): no call's contract can
 -- be met by a program that refuses always, that gives one answer always or that writes nothing, nor a sweep's by one that writes
 -- everywhere. The contracts are the promises of the calls themselves. Assumes nothing.
-use mathlib.Core.List.{List}
+use mathlib.Core.List.{List, []}
 use Prim.Native.Nat.{ℕ}
 use lib.ListN.{length, replicate}
 use Rattle.geometry.specs.declared.Refusal.{Refusal}
@@ -24,6 +24,11 @@ use Rattle.place.specs.declared.Placed.the-variants as given
 use Rattle.claim.specs.Claimed.{Claims}
 use Rattle.claim.specs.declared.Claimed.{Claimed}
 use Rattle.claim.specs.declared.Claimed.the-variants as taken
+use Rattle.copies.specs.Copies.{Chooses, CopiesOver, TellsAddresses}
+use Rattle.copies.specs.declared.Copied.{Copied}
+use Rattle.copies.specs.declared.Copied.the-variants as copied
+use Rattle.copies.specs.declared.Located.{Located}
+use Rattle.copies.specs.declared.Located.the-variants as located
 
 -- a contract: of a map and what else a call is handed (H), what it answers (A) and what it leaves of what it is lent (L)
 abbrev pub Contract : Type 0 → Type 0 → Type 0 → Type 1
@@ -79,6 +84,23 @@ places m h r after = Places m (h .0) (h .1) r after
 abbrev pub claims : Contract ℕ Claimed (List ℕ)
 claims m size r after = Claims m size r after
 
+-- the second copy is handed in with the first: refusal, zone and which are the answer; then the part handed back and the equality, each with
+-- the other among the answers
+abbrev pub chooses : Contract (List ℕ) (ℕ × ℕ × ℕ) (ℕ × List ℕ)
+chooses a b r l = Chooses a b (r .0, r .1, r .2, l .0) (l .1)
+
+abbrev pub handsBack : Contract (List ℕ) (ℕ × ℕ × ℕ × ℕ) (List ℕ)
+handsBack a b r part = Chooses a b r part
+
+abbrev pub tellsEqual : Contract (List ℕ) (ℕ × ℕ × ℕ × List ℕ) ℕ
+tellsEqual a b r equal = Chooses a b (r .0, r .1, r .2, equal) (r .3)
+
+abbrev pub copiesOver : Contract (List ℕ) Copied (List ℕ)
+copiesOver source target r after = CopiesOver source target r after
+
+abbrev pub locates : Contract (Unit {0}) Located (Unit {0})
+locates m h r l = TellsAddresses m r
+
 pub record EmptyPrograms : Type 0 where
   pub check : NoEmptyAnswer check.Refused checks
   pub list : NoEmptyAnswer listed.Refused lists
@@ -100,3 +122,15 @@ pub record EmptyPrograms : Type 0 where
   pub place-edits-nothing : Leaves (λ m h. m) places → ⊥
   pub claim : NoEmptyAnswer taken.Refused claims
   pub claim-edits-nothing : Leaves (λ m size. m) claims → ⊥
+  -- the two copies: nothing handed back, always the first, always the second; never told equal, always told equal
+  pub choose : NoEmptyAnswer (λ r. (r .number, r .zone, 0)) chooses
+  pub choose-nothing : Leaves (λ a b. []) handsBack → ⊥
+  pub choose-first : Leaves (λ a b. a) handsBack → ⊥
+  pub choose-second : Leaves (λ a b. b) handsBack → ⊥
+  pub never-equal : Leaves (λ a b. 0) tellsEqual → ⊥
+  pub always-equal : Leaves (λ a b. 1) tellsEqual → ⊥
+  -- one over the other: nothing written, or the source whatever it is
+  pub copy : NoEmptyAnswer copied.Refused copiesOver
+  pub copy-writes-nothing : Leaves (λ source target. target) copiesOver → ⊥
+  pub copy-writes-always : Leaves (λ source target. source) copiesOver → ⊥
+  pub addresses : NoEmptyAnswer located.Refused locates

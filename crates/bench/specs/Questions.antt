@@ -21,6 +21,8 @@ use Rattle.place.specs.Placed.{placeNumbers}
 use Rattle.place.specs.Placed as placed
 use Rattle.claim.specs.Claimed.{claimNumbers}
 use Rattle.claim.specs.Claimed as claimed
+use Rattle.copies.specs.Copies.{copyFound, handedBack, sameBytes, choiceTold, copyJudged, targetAfter, copyAnswer, copyNumbers}
+use Rattle.copies.specs.Copies.{addressesFound, addressesAnswer, addressesNumbers}
 
 -- the calls with what they are handed: lists and images as they are lent; `counted` and `countedFree` are sweeps of so many bytes
 pub data Question : Type 0 where
@@ -36,6 +38,9 @@ pub data Question : Type 0 where
   release : List ℕ → ℕ → List ℕ → Question
   place : List ℕ → ℕ → List ℕ → Question
   claim : List ℕ → ℕ → Question
+  choose : List ℕ → List ℕ → Question
+  copyOver : List ℕ → List ℕ → Question
+  copyAddresses : List ℕ → Question
   -- the map after an edit
   after : List ℕ → Call → Question
   -- start zone, sizes and need of a geometry; what an edit of these zones does to their cross checks
@@ -81,6 +86,9 @@ answer (countedFree m first n) = sweepCount first n (freeSweep m first n)
 answer (release m id old) = listed old (pairsTaken (outcome m (call.release id (length old))))
 answer (place m id l) = two (placeNumbers (placed.placeAnswer (outcome m (call.place id l))))
 answer (claim m size) = five (claimNumbers (claimed.claimAnswer (outcome m (call.claim size))))
+answer (choose a b) = four (choiceTold (copyFound a b) (sameBytes a b)) ++ handedBack a b
+answer (copyOver s t) = two (copyNumbers (copyAnswer (copyJudged s t))) ++ targetAfter t (copyJudged s t)
+answer (copyAddresses m) = four (addressesNumbers (addressesAnswer (addressesFound m)))
 answer (after m c) = step m c
 answer (start g id) = three (startNumbers (startOf g 1 id))
 answer (sizes g) = g .bits ∷ g .shortest ∷ g .ids ∷ g .size ∷ []

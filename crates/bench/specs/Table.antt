@@ -2,12 +2,12 @@
 use mathlib.Core.Bool.{true, false}
 use mathlib.Core.List.{List, [], _∷_, _++_}
 use Prim.Native.Nat.{ℕ}
-use lib.ListN.{replicate}
+use lib.ListN.{take, drop, replicate}
 use Rattle.geometry.specs.Record.{geometryFrom, geometryOf, floppyDisc, eightZones, driveOf, plusDisc}
 use Rattle.checks.specs.Maps.{withBytes, mapA, mapB, mapD}
 use Rattle.edits.specs.Judge as call
 use Rattle.bench.specs.Questions.{Question, record-read, check, list, free, address, sweepObject, sweepFree, counted, countedFree}
-use Rattle.bench.specs.Questions.{release, place, claim, after, start, sizes, bitsFor, change, answer}
+use Rattle.bench.specs.Questions.{release, place, claim, choose, copyOver, copyAddresses, after, start, sizes, bitsFor, change, answer}
 
 pub record Row : Type 0 where
   pub question : Question
@@ -77,6 +77,31 @@ longIds = withBytes ((0, 0xB4) ∷ (1, 0x0C) ∷ (8, 0x13) ∷ (48, 0x01) ∷ (6
 -- D with two free fragments of zone 1 that touch, (1548,12) and (1560,1992)
 abbrev touchingD : List ℕ
 touchingD = withBytes ((256, 0x6F) ∷ (261, 0xC8) ∷ (262, 0x80) ∷ []) mapD
+
+-- A's record with four zones and disc_size 7,766,016, object 2 in zone 2 and all else free; and with object 5 placed in all four zones
+abbrev mapF : List ℕ
+mapF =
+    withBytes
+    ((0, 0x0D) ∷ (1, 0xF8) ∷ (2, 0x81) ∷ (3, 0xFF)
+    ∷ (4, 0x08) ∷ (8, 0x0B) ∷ (9, 0x0A) ∷ (13, 0x04) ∷ (14, 0x20) ∷ (21, 0x80) ∷ (22, 0x76)
+    ∷ (255, 0x80)
+    ∷ (256, 0x18) ∷ (257, 0x18) ∷ (258, 0x80) ∷ (511, 0x80)
+    ∷ (512, 0x2E) ∷ (513, 0x24) ∷ (514, 0x80) ∷ (516, 0x02) ∷ (517, 0x08) ∷ (767, 0x80)
+    ∷ (768, 0x18) ∷ (769, 0x18) ∷ (770, 0x80) ∷ (1023, 0x80) ∷ [])
+    (replicate 1024 0)
+
+abbrev mapG : List ℕ
+mapG =
+    withBytes
+    ((0, 0xE5) ∷ (1, 0x04) ∷ (2, 0x82) ∷ (3, 0xFE) ∷ (64, 0x05) ∷ (65, 0x08)
+    ∷ (256, 0x28) ∷ (257, 0x24) ∷ (259, 0x01) ∷ (260, 0x05) ∷ (261, 0x08)
+    ∷ (512, 0x08) ∷ (513, 0x30) ∷ (515, 0x01) ∷ (517, 0x58) ∷ (518, 0x80)
+    ∷ (768, 0x28) ∷ (769, 0x24) ∷ (771, 0x01) ∷ (772, 0x05) ∷ (773, 0x08) ∷ [])
+    mapF
+
+-- a copy of one map over which n bytes of another are written
+abbrev written : ℕ → List ℕ → List ℕ → List ℕ
+written n new old = take n new ++ drop n old
 
 abbrev pub table : List Row
 table =
@@ -266,6 +291,34 @@ table =
     ∷ row (free longIds lent) (0 ∷ 0 ∷ 1 ∷ 20 ∷ 1516 ∷ 9 ∷ 9 ∷ [])
     ∷ row (claim longIds 1) (0 ∷ 0 ∷ 3 ∷ 20 ∷ 20 ∷ [])
     ∷ row (after longIds (call.claim 1)) (withBytes ((0, 0x38) ∷ (1, 0x20) ∷ (66, 0x38) ∷ (68, 0x80) ∷ []) longIds)
+    -- The two copies (document 02, R-5). The first where it is accepted, equal to the second or not; else the second; else the first's refusal
+    -- and no bytes. Whether they are equal is told of refused ones too; no bytes twice are.
+    ∷ row (choose mapA mapB) (0 ∷ 0 ∷ 1 ∷ 0 ∷ mapA)
+    ∷ row (choose mapA mapA) (0 ∷ 0 ∷ 1 ∷ 1 ∷ mapA)
+    ∷ row (choose mapA []) (0 ∷ 0 ∷ 1 ∷ 0 ∷ mapA)
+    ∷ row (choose spoiltD mapD) (0 ∷ 0 ∷ 2 ∷ 0 ∷ mapD)
+    ∷ row (choose spoiltD mapA) (0 ∷ 0 ∷ 2 ∷ 0 ∷ mapA)
+    ∷ row (choose spoiltD dirtyA) (3 ∷ 1 ∷ 0 ∷ 0 ∷ [])
+    ∷ row (choose spoiltD spoiltD) (3 ∷ 1 ∷ 0 ∷ 1 ∷ [])
+    ∷ row (choose [] []) (1 ∷ 0 ∷ 0 ∷ 1 ∷ [])
+    -- One over the other: whatever the target holds; the source's refusal before the lengths.
+    ∷ row (copyOver mapD spoiltD) (0 ∷ 0 ∷ mapD)
+    ∷ row (copyOver mapA mapD) (1 ∷ 0 ∷ mapD)
+    ∷ row (copyOver spoiltD mapA) (3 ∷ 1 ∷ mapA)
+    -- Where they lie: A has one zone, D two, F four.
+    ∷ row (copyAddresses mapA) (0 ∷ 0 ∷ 0 ∷ 256 ∷ [])
+    ∷ row (copyAddresses mapD) (0 ∷ 0 ∷ 1572864 ∷ 1573376 ∷ [])
+    ∷ row (copyAddresses mapF) (0 ∷ 0 ∷ 3637248 ∷ 3638272 ∷ [])
+    ∷ row (copyAddresses plusA) (0 ∷ 0 ∷ 0 ∷ 256 ∷ [])
+    ∷ row (copyAddresses spoiltD) (3 ∷ 1 ∷ 0 ∷ 0 ∷ [])
+    -- A station that writes G over F's copies, the second first, and is cut off: the old map until the second is whole; then the new one where
+    -- the first is refused, after one block of four. With two written the first is accepted, and is neither map; but they are not equal.
+    ∷ row (after mapF (call.place 5 (0 ∷ 12 ∷ 1536 ∷ 12 ∷ 3564 ∷ 12 ∷ 5568 ∷ 12 ∷ []))) mapG
+    ∷ row (choose mapF (written 512 mapG mapF)) (0 ∷ 0 ∷ 1 ∷ 0 ∷ mapF)
+    ∷ row (choose mapF mapG) (0 ∷ 0 ∷ 1 ∷ 0 ∷ mapF)
+    ∷ row (choose (written 256 mapG mapF) mapG) (0 ∷ 0 ∷ 2 ∷ 0 ∷ mapG)
+    ∷ row (choose (written 512 mapG mapF) mapG) (0 ∷ 0 ∷ 1 ∷ 0 ∷ written 512 mapG mapF)
+    ∷ row (list (written 512 mapG mapF) 5 lent) (0 ∷ 0 ∷ 2 ∷ 0 ∷ 12 ∷ 1536 ∷ 12 ∷ [])
     -- A map that is a byte too long; object 3 where A's middle zone has to begin with 2.
     ∷ row (check (mapA ++ 0 ∷ [])) (1 ∷ 0 ∷ [])
     ∷ row (check (withBytes ((0, 0xC4) ∷ (64, 0x03) ∷ []) mapA)) (7 ∷ 0 ∷ [])

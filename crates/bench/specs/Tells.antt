@@ -25,6 +25,10 @@ use Rattle.place.specs.Placed.{Places, placeNumbers}
 use Rattle.place.specs.declared.Placed.{Placed}
 use Rattle.claim.specs.Claimed.{Claims, claimNumbers}
 use Rattle.claim.specs.declared.Claimed.{Claimed}
+use Rattle.copies.specs.Copies.{first, second, copyFound, Chooses, copyJudged, copyNumbers, CopiesOver, addressesFound, addressesNumbers, TellsAddresses}
+use Rattle.copies.specs.declared.Copied.{Copied}
+use Rattle.copies.specs.declared.Addresses.{Addresses}
+use Rattle.copies.specs.declared.Located.{Located}
 
 -- check
 pub record CheckTells (m : List ℕ) (r : Checked) : Type 0 where
@@ -61,6 +65,22 @@ pub record ClaimTells (m : List ℕ) (size : ℕ) (r : Claimed) (after : List �
   pub refused-told : (n z : ℕ) → outcome m (claim size) ≡ refused n z → (claimNumbers r ≡ (n, z, 0, 0, 0)) × (after ≡ m)
   pub accepted-told : (id : ℕ) (q : Pair) → outcome m (claim size) ≡ answered (gives id (q ∷ [])) → claimNumbers r ≡ (0, 0, id, q .start, q .len)
 
+-- the two copies: refusal, zone, which, equal; "hand back the part that is an accepted map", or "an empty part"
+pub record ChoiceTells (a b : List ℕ) (told : ℕ × ℕ × ℕ × ℕ) (handed : List ℕ) : Type 0 where
+  pub refused-told : (n z : ℕ) → copyFound a b ≡ refused n z → (told ≡ (n, z, 0, told .3)) × (handed ≡ [])
+  pub first-told : copyFound a b ≡ answered first → (told ≡ (0, 0, 1, told .3)) × (handed ≡ a)
+  pub second-told : copyFound a b ≡ answered second → (told ≡ (0, 0, 2, told .3)) × (handed ≡ b)
+  pub equal-told : a ≡ b → told .3 ≡ 1
+  pub unequal-told : (a ≡ b → ⊥) → told .3 ≡ 0
+
+pub record CopyTells (source target : List ℕ) (r : Copied) (after : List ℕ) : Type 0 where
+  pub refused-told : (n z : ℕ) → copyJudged source target ≡ refused n z → (copyNumbers r ≡ (n, z)) × (after ≡ target)
+  pub accepted-told : (bytes : List ℕ) → copyJudged source target ≡ answered bytes → (copyNumbers r ≡ (0, 0)) × (after ≡ source)
+
+pub record AddressesTells (found : Answer Addresses) (r : Located) : Type 0 where
+  pub refused-told : (n z : ℕ) → found ≡ refused n z → addressesNumbers r ≡ (n, z, 0, 0)
+  pub accepted-told : (l : Addresses) → found ≡ answered l → addressesNumbers r ≡ (0, 0, l .first, l .second)
+
 pub record AnswersTold : Type 0 where
   pub checks : (m : List ℕ) (r : Checked) → Checks m r → CheckTells m r
   pub lists : (found : Answer (List Pair)) (old : List ℕ) (r : Listed) (new : List ℕ) → Lists found old r new → ListTells found old r new
@@ -70,6 +90,9 @@ pub record AnswersTold : Type 0 where
   pub releases : (m : List ℕ) (id : ℕ) (old : List ℕ) (r : Listed) (after new : List ℕ) → Releases m id old r after new → ReleaseTells m id old r after new
   pub places : (m : List ℕ) (id : ℕ) (list : List ℕ) (r : Placed) (after : List ℕ) → Places m id list r after → PlaceTells m id list r after
   pub claims : (m : List ℕ) (size : ℕ) (r : Claimed) (after : List ℕ) → Claims m size r after → ClaimTells m size r after
+  pub chooses : (a b : List ℕ) (told : ℕ × ℕ × ℕ × ℕ) (handed : List ℕ) → Chooses a b told handed → ChoiceTells a b told handed
+  pub copies : (source target : List ℕ) (r : Copied) (after : List ℕ) → CopiesOver source target r after → CopyTells source target r after
+  pub locates : (m : List ℕ) (r : Located) → TellsAddresses m r → AddressesTells (addressesFound m) r
   -- demand 3: "Release an ordinary object, with room for its list, and at once place the returned list under its number: both are accepted
   -- and every byte is as before, check bytes too." Of the promises: the list that the release left, cut to its pairs, is placed.
   pub returned-placed : (m : List ℕ) → Editable m → (id : ℕ) (old : List ℕ) (r : Listed) (after new : List ℕ) → Releases m id old r after new

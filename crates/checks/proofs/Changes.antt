@@ -13,7 +13,7 @@ use Rattle.bits.proofs.Tests.{by-test}
 use Rattle.bits.proofs.Xor.{xor-medial}
 use Rattle.checks.specs.Cross.{xorSum, amount, touchedCount, changesFrom, changes, xorEach}
 
-sum-each : (cs vs : List ℕ) → length vs ≤ length cs → xorSum (xorEach cs vs) ≡ bitXor (xorSum cs) (xorSum vs)
+pub sum-each : (cs vs : List ℕ) → length vs ≤ length cs → xorSum (xorEach cs vs) ≡ bitXor (xorSum cs) (xorSum vs)
 sum-each [] [] h = refl
 sum-each [] (v ∷ vs) h = absurd (omega arith)
 sum-each (c ∷ cs) [] h = sym (xor-zero-r (xorSum (c ∷ cs)))

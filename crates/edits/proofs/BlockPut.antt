@@ -11,7 +11,7 @@ use Rattle.model.specs.Blocks.{blockAt}
 use Rattle.model.proofs.ByPlace.{zone-end}
 
 -- a part that lies in the first e elements
-part-in-front : (k d e : ℕ) (l : List ℕ) → d + k ≤ e → take k (drop d (take e l)) ≡ take k (drop d l)
+pub part-in-front : (k d e : ℕ) (l : List ℕ) → d + k ≤ e → take k (drop d (take e l)) ≡ take k (drop d l)
 part-in-front k zero e l h = take-take k e l (omega arith)
 part-in-front k (suc d) zero l h = absurd (omega arith)
 part-in-front k (suc d) (suc e) [] h = refl

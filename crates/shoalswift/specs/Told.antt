@@ -13,6 +13,7 @@ use Rattle.sweep.specs.Sweep.{Class, sweepTold, imageAfter}
 use Rattle.release.specs.Released.{pairsTaken}
 use Rattle.place.specs.Placed.{placeTold}
 use Rattle.claim.specs.Claimed.{claimTold}
+use Rattle.copies.specs.Copies.{copyJudged, copyTold, targetAfter}
 
 -- a listing, by what it finds with so much room
 pub record ListTold (found : ℕ → Answer (List Pair)) (old : List ℕ) (told : ℕ × ℕ × ℕ) (new : List ℕ) : Type 0 where
@@ -35,3 +36,7 @@ pub record PlaceTold (m : List ℕ) (id : ℕ) (list : List ℕ) (told : ℕ × 
 pub record ClaimTold (m : List ℕ) (size : ℕ) (told : ℕ × ℕ × ℕ × ℕ × ℕ) (after : List ℕ) : Type 0 where
   pub numbers : told ≡ claimTold (outcome m (claim size))
   pub bytes : after ≡ step m (claim size)
+
+pub record CopyTold (source target : List ℕ) (told : ℕ × ℕ) (after : List ℕ) : Type 0 where
+  pub numbers : told ≡ copyTold (copyJudged source target)
+  pub bytes : after ≡ targetAfter target (copyJudged source target)

@@ -3,6 +3,8 @@
 // number lent, 0 where the call is refused. Each has the full contract of the call that it forwards to.
 use address::Reached;
 use claim::Claimed;
+use copies::Copied;
+use copies::Located;
 use listing::Listed;
 use map::Checked;
 use place::Placed;
@@ -13,8 +15,9 @@ ghost use Rattle.map.specs.Checked.{checked, checkTold};
 ghost use Rattle.listing.specs.Listed.{objectFound, freeFound, listNumbers};
 ghost use Rattle.address.specs.Address.{locationFound, addressTold};
 ghost use Rattle.sweep.specs.Sweep.{objectSweep, freeSweep, sweepNumbers};
+ghost use Rattle.copies.specs.Copies.{copyFound, sameBytes, choiceTold, addressesFound, addressesTold};
 ghost use Rattle.shoalswift.specs.Geometry.{geometryNumbers};
-ghost use Rattle.shoalswift.specs.Told.{ListTold, SweepTold, ReleaseTold, PlaceTold, ClaimTold};
+ghost use Rattle.shoalswift.specs.Told.{ListTold, SweepTold, ReleaseTold, PlaceTold, ClaimTold, CopyTold};
 
 // Checks a map.
 #[no_mangle]
@@ -222,6 +225,67 @@ pub extern "C" fn shoalswift_claim(
             *id = 0;
             *start = 0;
             *len = 0;
+            *zone = r.zone;
+            r.number
+        }
+    }
+}
+
+// Which of two copies is an accepted map, and whether they are equal. The part that `copies::choose` hands back is the copy told.
+#[no_mangle]
+pub extern "C" fn shoalswift_choose_copy<'a>(
+    first: &'a [u8],
+    second: &'a [u8],
+    which: &mut u32,
+    equal: &mut u32,
+    zone: &mut u32,
+) -> u32
+    ensures { λ r.
+        ⌜ (r, now (zone .exit), now (which .exit), now (equal .exit))
+        ≡ choiceTold (copyFound (now (first .entry)) (now (second .entry))) (sameBytes (now (first .entry)) (now (second .entry))) ⌝ }
+{
+    let mut number = 0;
+    copies::choose(first, second, &mut number, zone, which, equal);
+    number
+}
+
+// Writes an accepted map over another copy.
+#[no_mangle]
+pub extern "C" fn shoalswift_copy_over(source: &[u8], target: &mut [u8], zone: &mut u32) -> u32
+    ensures { λ r. ⌜ CopyTold (now (source .entry)) (now (target .entry)) (r, now (zone .exit)) (now (target .exit)) ⌝ }
+{
+    match copies::copy_over(source, target) {
+        Copied::Done => {
+            *zone = 0;
+            0
+        }
+        Copied::Refused(r) => {
+            *zone = r.zone;
+            r.number
+        }
+    }
+}
+
+// The disc addresses of an accepted map's two copies.
+#[no_mangle]
+pub extern "C" fn shoalswift_copy_addresses(
+    map: &[u8],
+    first: &mut u64,
+    second: &mut u64,
+    zone: &mut u32,
+) -> u32
+    ensures { λ r. ⌜ (r, now (zone .exit), now (first .exit), now (second .exit)) ≡ addressesTold (addressesFound (now (map .entry))) ⌝ }
+{
+    match copies::copy_addresses(map) {
+        Located::At(l) => {
+            *first = l.first;
+            *second = l.second;
+            *zone = 0;
+            0
+        }
+        Located::Refused(r) => {
+            *first = 0;
+            *second = 0;
             *zone = r.zone;
             r.number
         }

@@ -27,7 +27,8 @@ fn next_case() -> bool {
 }
 
 // A case with its buffers, twice as long as the largest map of version 0 (255 blocks of 1,024 bytes), and as the longest list and image of a
-// stored case: the part that the call works on, and after it the same as it was read. No stored map of E+ is longer.
+// stored case: the part that the call works on, and after it the same as it was read. No stored map of E+ is longer. A case of two copies has
+// the second one, or the target, in the image's place.
 fn run_case(head: &[u8; 32]) {
     let mut map = [0u8; 522240];
     let mut list = [0u32; 2048];
@@ -57,7 +58,7 @@ fn run_parts(
     print_changes(head, map, m, list, k, image, n);
 }
 
-// What changed of the list, the map and the image, of a call that may write it.
+// What changed of the list, the map, the image and the target, of a call that may write it.
 fn print_changes(
     head: &[u8; 32],
     map: &[u8],
@@ -80,6 +81,10 @@ fn print_changes(
     if writes_image(head[0]) {
         print_text(b" image");
         print_changed_runs(image, n);
+    }
+    if head[0] == 11 {
+        print_text(b" copy");
+        print_changed_bytes(image, n);
     }
     print_text(b"\n");
 }
@@ -118,6 +123,9 @@ fn run_call(head: &[u8; 32], map: &mut [u8], list: &mut [u32], image: &mut [u8])
         7 => run_release(head, map, list),
         8 => run_place(head, map, list),
         9 => run_claim(head, map),
+        10 => run_choose_copy(map, image),
+        11 => run_copy_over(map, image),
+        12 => run_copy_addresses(map),
         _ => print_text(b"unknown"),
     }
 }
@@ -232,6 +240,35 @@ fn run_claim(head: &[u8; 32], map: &mut [u8]) {
     print_value(id as u64);
     print_value(start as u64);
     print_value(len as u64);
+}
+
+fn run_choose_copy<'a>(first: &'a [u8], second: &'a [u8]) {
+    let mut zone = 0;
+    let mut which = 0;
+    let mut equal = 0;
+    let r = shoalswift::shoalswift_choose_copy(first, second, &mut which, &mut equal, &mut zone);
+    print_text(b"choose_copy");
+    print_answer(r, zone);
+    print_value(which as u64);
+    print_value(equal as u64);
+}
+
+fn run_copy_over(source: &[u8], target: &mut [u8]) {
+    let mut zone = 0;
+    let r = shoalswift::shoalswift_copy_over(source, target, &mut zone);
+    print_text(b"copy_over");
+    print_answer(r, zone);
+}
+
+fn run_copy_addresses(map: &[u8]) {
+    let mut zone = 0;
+    let mut first = 0;
+    let mut second = 0;
+    let r = shoalswift::shoalswift_copy_addresses(map, &mut first, &mut second, &mut zone);
+    print_text(b"copy_addresses");
+    print_answer(r, zone);
+    print_value(first);
+    print_value(second);
 }
 
 fn print_answer(number: u32, zone: u32) {

@@ -1,12 +1,15 @@
 -- Each promise says which definition its numbers and its bytes equal; a refusal or a value found decides what that comes to.
-use mathlib.Core.Path.{_≡_, ap, _∙_}
+use mathlib.Core.Path.{_≡_, refl, sym, ap, _∙_}
+use mathlib.Core.Bool.{Bool, cond}
 use mathlib.Core.List.{List}
 use Prim.Native.Nat.{ℕ, _*_}
 use lib.ListN.{length, take, drop}
 use lib.Seq.{take-at}
-use Rattle.model.specs.Answer.{Answer, answered}
+use Rattle.bits.proofs.Tests.{by-test}
+use Rattle.model.specs.Answer.{Answer, refused, answered}
 use Rattle.model.specs.Chain.{Pair, numbersOf}
 use Rattle.model.proofs.Lists.{length-numbers}
+use Rattle.model.proofs.LinesJudged.{table-answered}
 use Rattle.map.specs.Checked.{checkTold}
 use Rattle.listing.specs.Listed.{Lists, listTold, listAfter}
 use Rattle.listing.specs.declared.Listed.{Listed}
@@ -21,7 +24,10 @@ use Rattle.place.specs.Placed.{Places, placeTold}
 use Rattle.place.specs.declared.Placed.{Placed}
 use Rattle.claim.specs.Claimed.{claimTold}
 use Rattle.runs.proofs.StepLaws.{release-place}
-use Rattle.bench.specs.Tells.{ListTells, ReleaseTells}
+use Rattle.copies.specs.Copies.{Copy, first, second, copyFound, partOf, sameBytes, choiceTold, Chooses, copyTold, targetAfter, addressesTold}
+use Rattle.copies.proofs.SameBytes.{equal-exactly}
+use Rattle.copies.proofs.Over.{copy-by-table}
+use Rattle.bench.specs.Tells.{ListTells, ReleaseTells, ChoiceTells}
 use Rattle.bench.proofs.answers_told.Statement.{statement}
 use Rattle.bench.proofs.answers_told.Tie as tie
 
@@ -52,6 +58,25 @@ placed-back m ed id old r after new p qs e s end q =
     let t = same after (take (2 * length qs) new) (p .bytes) list in
     (t .0, q .bytes ∙ t .1)
 
+-- the equality is told by itself: told numbers differ in it alone
+chosen : (a b : List ℕ) (told : ℕ × ℕ × ℕ × ℕ) (handed : List ℕ) → Chooses a b told handed → ChoiceTells a b told handed
+chosen a b told handed p =
+    let by : (f : Answer Copy) → copyFound a b ≡ f → told ≡ choiceTold f (sameBytes a b) = λ f e. p .numbers ∙ ap (λ (x : Answer Copy). choiceTold x (sameBytes a b)) e in
+    let back : (f : Answer Copy) → copyFound a b ≡ f → handed ≡ partOf a b f = λ f e. p .part ∙ ap (partOf a b) e in
+    let flag : told .3 ≡ cond (sameBytes a b) 1 0 = ap (λ (x : ℕ × ℕ × ℕ × ℕ). x .3) (p .numbers) ∙ same-flag (copyFound a b) (sameBytes a b) in
+    record {
+      refused-told = λ n z e. (by (refused n z) e ∙ ap (λ (x : ℕ). (n, z, 0, x)) (sym flag), back (refused n z) e);
+      first-told = λ e. (by (answered first) e ∙ ap (λ (x : ℕ). (0, 0, 1, x)) (sym flag), back (answered first) e);
+      second-told = λ e. (by (answered second) e ∙ ap (λ (x : ℕ). (0, 0, 2, x)) (sym flag), back (answered second) e);
+      equal-told = λ e. flag ∙ ap (λ (t : Bool). cond t 1 0) (equal-exactly a b .1 e);
+      unequal-told = λ n. flag ∙ by-test (sameBytes a b) (λ t. absurd (n (equal-exactly a b .0 t))) (λ t. ap (λ (t : Bool). cond t 1 0) t);
+    }
+  where
+    same-flag : (f : Answer Copy) (e : Bool) → (choiceTold f e) .3 ≡ cond e 1 0
+    same-flag (answered first) e = refl
+    same-flag (answered second) e = refl
+    same-flag (refused n z) e = refl
+
 returns : tie.Need-returns
 returns c = record {
   checks = λ m r p. record { refused-told = λ n z e. p .numbers ∙ ap checkTold e; accepted-told = λ ess e. p .numbers ∙ ap checkTold e };
@@ -70,6 +95,12 @@ returns c = record {
     refused-told = λ n z e. (p .numbers ∙ ap claimTold e, p .bytes ∙ ap (bytesAfter m) e);
     accepted-told = λ id q e. p .numbers ∙ ap claimTold e;
   };
+  chooses = chosen;
+  copies = λ source target r after p. record {
+    refused-told = λ n z e. (p .numbers ∙ ap copyTold e, p .bytes ∙ ap (targetAfter target) e);
+    accepted-told = λ bytes e. (p .numbers ∙ ap copyTold e, p .bytes ∙ ap (targetAfter target) e ∙ table-answered (copy-by-table source target) e .value);
+  };
+  locates = λ m r p. record { refused-told = λ n z e. p .numbers ∙ ap addressesTold e; accepted-told = λ l e. p .numbers ∙ ap addressesTold e };
   returned-placed = λ m ed id old r after new p qs e s end q.
       (let t = placed-back m ed id old r after new p qs e s end q in (q .numbers ∙ ap placeTold (t .0), t .1));
 }

@@ -16,6 +16,9 @@ use Rattle.address.specs.declared.Reached.the-variants as reached
 use Rattle.sweep.specs.declared.Swept.the-variants as swept
 use Rattle.place.specs.declared.Placed.the-variants as given
 use Rattle.claim.specs.declared.Claimed.the-variants as taken
+use Rattle.copies.specs.declared.Copied.the-variants as copied
+use Rattle.copies.specs.declared.Addresses.{Addresses}
+use Rattle.copies.specs.declared.Located.the-variants as located
 use Rattle.bench.proofs.empty_programs.Statement.{statement}
 use Rattle.bench.proofs.empty_programs.Tie as tie
 
@@ -38,6 +41,12 @@ done-refused e = let z : _≡_ {A = ℕ} 0 1 = cc in omega arith
 piece-refused : {id : ℕ} {start : DiscBit} {len : ℕ} {r : Refusal} → taken.Piece id start len ≡ taken.Refused r → ⊥
 piece-refused e = let z : _≡_ {A = ℕ} 0 1 = cc in omega arith
 
+copied-refused : {r : Refusal} → copied.Done ≡ copied.Refused r → ⊥
+copied-refused e = let z : _≡_ {A = ℕ} 0 1 = cc in omega arith
+
+located-refused : {l : Addresses} {r : Refusal} → located.At l ≡ located.Refused r → ⊥
+located-refused e = let z : _≡_ {A = ℕ} 0 1 = cc in omega arith
+
 -- four bytes of a stretch
 abbrev four : List ℕ
 four = 1 ∷ 1 ∷ 1 ∷ 1 ∷ []
@@ -45,6 +54,16 @@ four = 1 ∷ 1 ∷ 1 ∷ 1 ∷ []
 -- two entries of a list
 abbrev lent : List ℕ
 lent = 9 ∷ 9 ∷ []
+
+-- what is told of two copies, and the first byte of one
+abbrev which : ℕ × ℕ × ℕ × ℕ → ℕ
+which n = n .2
+
+abbrev equal : ℕ × ℕ × ℕ × ℕ → ℕ
+equal n = n .3
+
+abbrev byte : List ℕ → ℕ
+byte l = getD l 0 0
 
 returns : tie.Need-returns
 unfolding zoneCheck wordsOf total
@@ -96,6 +115,25 @@ returns c =
         one-answer = λ h. let k = h 20480 .1 in piece-refused (sym (k mapA .1 .answer) ∙ k [] .1 .answer);
       };
       claim-edits-nothing = λ h. let e : _≡_ {A = ℕ} 199 8 = ap (λ (l : List ℕ). getD l 0 0) (h mapA 20480 .1 .bytes) in omega arith;
+      choose = record {
+        refuses = λ h. let e : _≡_ {A = ℕ} 0 1 = ap which (h mapA [] .2 .numbers) in omega arith;
+        one-answer = λ h. let k = h [] .1 in let e : _≡_ {A = ℕ} 1 0 = sym (ap which (k mapA .1 .numbers)) ∙ ap which (k [] .1 .numbers) in omega arith;
+      };
+      choose-nothing = λ h. let e : _≡_ {A = ℕ} 0 199 = ap byte (h mapA [] .1 .part) in omega arith;
+      choose-first = λ h. let e : _≡_ {A = ℕ} 0 199 = ap byte (h [] mapA .1 .part) in omega arith;
+      choose-second = λ h. let e : _≡_ {A = ℕ} 0 199 = ap byte (h mapA [] .1 .part) in omega arith;
+      never-equal = λ h. let e : _≡_ {A = ℕ} 0 1 = ap equal (h [] [] .1 .numbers) in omega arith;
+      always-equal = λ h. let e : _≡_ {A = ℕ} 1 0 = ap equal (h mapA [] .1 .numbers) in omega arith;
+      copy = record {
+        refuses = λ h. copied-refused (sym (h mapA mapB .2 .answer));
+        one-answer = λ h. let k = h mapB .1 in copied-refused (sym (k mapA .1 .answer) ∙ k [] .1 .answer);
+      };
+      copy-writes-nothing = λ h. let e : _≡_ {A = ℕ} 40 199 = ap byte (h mapA mapB .1 .bytes) in omega arith;
+      copy-writes-always = λ h. let e : _≡_ {A = ℕ} 0 40 = ap byte (h [] mapB .1 .bytes) in omega arith;
+      addresses = record {
+        refuses = λ h. located-refused (sym (h mapA tt .2 .answer));
+        one-answer = λ h. let k = h tt .1 in located-refused (sym (k mapA .1 .answer) ∙ k [] .1 .answer);
+      };
     }
 
 pub empty-programs-spec : {M : Type 1} → statement M

@@ -1,0 +1,9 @@
+pub mod Whole
+pub mod SameBytes
+pub mod Answers
+pub mod Choice
+pub mod Over
+pub mod Middle
+pub mod CutOff
+pub mod BlockEdge
+pub mod Laws

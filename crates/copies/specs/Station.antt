@@ -1,0 +1,42 @@
+-- A station that has edited a map in memory and writes it to the disc: over the second copy, then over the first. It may be cut off after
+-- any byte (document 02, R-5). Assumes nothing.
+use mathlib.Core.Path.{_≡_}
+use mathlib.Core.Bool.{true}
+use mathlib.Core.List.{List, _++_}
+use mathlib.Core.Logic.{_⊎_}
+use Prim.Native.Nat.{ℕ, _-_, _*_, _≤_}
+use lib.ListN.{length, take, drop}
+use Rattle.model.specs.Rules.{MapRules}
+use Rattle.copies.specs.Copies.{handedBack, sameBytes}
+
+-- a copy after n of the new map's bytes
+abbrev pub written : ℕ → List ℕ → List ℕ → List ℕ
+written n new old = take n new ++ drop n old
+
+-- the disc's copies after n bytes in all: the second has been written before the first is begun
+pub record Copies : Type 0 where
+  pub first : List ℕ
+  pub second : List ℕ
+
+abbrev pub cutOff : ℕ → List ℕ → Copies → Copies
+cutOff n new p = record { first = written (n - length new) new (p .first); second = written n new (p .second) }
+
+abbrev pub yield : Copies → List ℕ
+yield p = handedBack (p .first) (p .second)
+
+abbrev pub Equal : Copies → Type 0
+Equal p = sameBytes (p .first) (p .second) ≡ true
+
+-- What such a pair yields, `old` being the map that its first copy was.
+pub record Yields (old new : List ℕ) (n : ℕ) (p : Copies) : Type 0 where
+  -- until the second is whole, and as long as the first is not begun: exactly the old map
+  pub until-whole : n ≤ length new → yield p ≡ old
+  -- afterwards exactly the new one, whenever the half-written first is refused, and at the end
+  pub afterwards : length new ≤ n → (MapRules (p .first) → ⊥) → yield p ≡ new
+  pub at-end : 2 * length new ≤ n → (yield p ≡ new) × Equal p
+  -- in any case an accepted map
+  pub accepted : MapRules (yield p)
+  -- No more can be promised: a half-written first copy may be accepted by chance (`CopyLaws.at-block-edge`), and is then neither the old
+  -- map nor the new one. It is not equal to the second, which is whole. So "not equal" warns of it, and of nothing once all is written;
+  -- and copies that are told to be equal yield one of the two maps.
+  pub told-equal : Equal p → (yield p ≡ old) ⊎ (yield p ≡ new)
