@@ -1,9 +1,9 @@
 /* Shoalswift: maps of discs in Acorn's E and E+ formats.
  *
  * Every function answers a refusal number, 0 where the call is accepted. *zone is always written: the zone told, or 0. Every other
- * number handed in by pointer is always written too, 0 where the call is refused (but for *equal, which is told all the same). A refused
- * call changes no byte of map, image or list. No function keeps a pointer, allocates, or has state; calls on different maps may run at
- * the same time.
+ * number handed in by pointer is always written too, 0 where the call is refused (*equal of choose_copy is told even then). A refused
+ * call changes no byte of map, image or list. No function keeps a pointer, allocates, or has state; calls on different maps may run
+ * at the same time. No function writes more than one map.
  *
  * What a caller owes: each pointer with a length is valid for that many elements (it may be any non-null, aligned pointer where the
  * length is 0), each pointer to a number is valid, and nothing that is written overlaps anything else that is handed in. There
@@ -11,15 +11,16 @@
  *
  * A map is the blocks of all zones, zone 0 first. Lists are pairs of 32-bit numbers: disc bit, length in map bits.
  *
- *  1  map shorter than 64 bytes, or not nzones*S         10  id not on the map
- *  2  record outside its ranges, or bytes of the map     11  id already on the map (place)
- *     not 0 that have to be (36 to 63; E+: 40 to 43)     12  list empty, odd, out of object order, overlapping, across zones, off
- *  3  a zone check differs                                   the map, not in clusters or too short; claim of 0 bytes
- *  4  cross checks don't give 255                        13  a listed bit isn't free, or a leftover of 1 to m-1 free bits
- *  5  FreeLink's top bit clear, or a link that lands     14  claim: no unused id (cannot arise)
- *     on no fragment start                               15  claim: no hole long enough
- *  6  a fragment without room, closing bit or whole      16  start offset plus position past the object; stretch past the disc
- *     clusters                                           17  too few entries for the pairs
+ *  1  map shorter than 64 bytes, or not nzones*S;        10  id not on the map
+ *     copy_over: lengths that differ                     11  id already on the map (place)
+ *  2  record outside its ranges, or bytes of the map     12  list empty, odd, out of object order, overlapping, across zones, off
+ *     not 0 that have to be (36 to 63; E+: 40 to 43)         the map, not in clusters or too short; claim of 0 bytes
+ *  3  a zone check differs                               13  a listed bit isn't free, or a leftover of 1 to m-1 free bits
+ *  4  cross checks don't give 255                        14  claim: no unused id (cannot arise)
+ *  5  FreeLink's top bit clear, or a link that lands     15  claim: no hole long enough
+ *     on no fragment start                               16  start offset plus position past the object; stretch past the disc
+ *  6  a fragment without room, closing bit or whole      17  too few entries for the pairs
+ *     clusters
  *  7  id, object 2 or disc-end rule broken
  *  8  id or internal number outside its range;
  *     address: any number on an E+ disc

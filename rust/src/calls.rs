@@ -10,7 +10,7 @@
 //! state and does not unwind, so calls may run on many threads at once.
 
 use crate::declared::*;
-use crate::{Claimed, Geometry, Location, Reason, Refusal};
+use crate::{Choice, Claimed, CopyAddresses, Geometry, Location, MapCopy, Reason, Refusal};
 
 /// Makes a call that answers a value and a zone: the value where its refusal
 /// number is 0, and else the refusal.
@@ -132,5 +132,45 @@ pub fn claim(map: &mut [u8], size: u64) -> Result<Claimed, Refusal> {
     answered(|given: &mut Claimed, zone| unsafe {
         let (id, start, len) = (&mut given.id, &mut given.start, &mut given.length);
         shoalswift_claim(bytes, length, size, id, start, len, zone)
+    })
+}
+
+/// Chooses of the two copies of a disc's map the one that is an accepted map:
+/// the first if it is accepted, else the second. Refused, as the first is, where
+/// neither is: 1 to 7. Whether they are equal is told in any case.
+pub fn choose_copy<'a>(first: &'a [u8], second: &'a [u8]) -> Choice<'a> {
+    let (one, one_length) = (first.as_ptr(), first.len());
+    let (two, two_length) = (second.as_ptr(), second.len());
+    let mut equal = 0;
+    // SAFETY: both copies are only read.
+    let which = answered(|which: &mut u32, zone| unsafe {
+        shoalswift_choose_copy(one, one_length, two, two_length, which, &mut equal, zone)
+    });
+    let accepted = which.map(|which| match which {
+        1 => MapCopy::First(first),
+        _ => MapCopy::Second(second),
+    });
+    Choice {
+        accepted,
+        equal: equal == 1,
+    }
+}
+
+/// Writes an accepted map over another copy, whatever that holds. Refused: the
+/// source's 1 to 7, then 1 where the lengths differ.
+pub fn copy_over(source: &[u8], target: &mut [u8]) -> Result<(), Refusal> {
+    let (bytes, length) = (source.as_ptr(), source.len());
+    let (to, room) = (target.as_mut_ptr(), target.len());
+    // SAFETY: the source is only read; the target is borrowed by this call alone.
+    answered(|(), zone| unsafe { shoalswift_copy_over(bytes, length, to, room, zone) })
+}
+
+/// The disc addresses of an accepted map's two copies. Refused as `check`.
+pub fn copy_addresses(map: &[u8]) -> Result<CopyAddresses, Refusal> {
+    let (bytes, length) = (map.as_ptr(), map.len());
+    // SAFETY: the map is only read.
+    answered(|at: &mut CopyAddresses, zone| unsafe {
+        let (first, second) = (&mut at.first, &mut at.second);
+        shoalswift_copy_addresses(bytes, length, first, second, zone)
     })
 }

@@ -26,7 +26,8 @@ mod declared;
 mod refusal;
 
 pub use calls::{
-    address, check, claim, free, geometry, list, place, release, sweep_free, sweep_object,
+    address, check, choose_copy, claim, copy_addresses, copy_over, free, geometry, list, place,
+    release, sweep_free, sweep_object,
 };
 pub use refusal::{Reason, Refusal};
 
@@ -64,4 +65,41 @@ pub struct Claimed {
     pub start: u32,
     /// The piece's length in map bits.
     pub length: u32,
+}
+
+/// What the two copies of a disc's map come to.
+#[derive(Clone, Copy, Debug, PartialEq, Eq)]
+pub struct Choice<'a> {
+    /// The copy that is an accepted map, the first if both are; or the refusal
+    /// of the first.
+    pub accepted: Result<MapCopy<'a>, Refusal>,
+    /// Whether the copies are byte for byte equal; told of refused ones too.
+    pub equal: bool,
+}
+
+/// A copy that is an accepted map, with its bytes.
+#[derive(Clone, Copy, Debug, PartialEq, Eq)]
+pub enum MapCopy<'a> {
+    /// The first copy.
+    First(&'a [u8]),
+    /// The second copy; the first is refused.
+    Second(&'a [u8]),
+}
+
+impl<'a> MapCopy<'a> {
+    /// The map, whichever copy it is.
+    pub fn map(self) -> &'a [u8] {
+        match self {
+            MapCopy::First(map) | MapCopy::Second(map) => map,
+        }
+    }
+}
+
+/// Where the two copies of a disc's map lie.
+#[derive(Clone, Copy, Debug, Default, PartialEq, Eq)]
+pub struct CopyAddresses {
+    /// The disc address of the first copy.
+    pub first: u64,
+    /// The disc address of the second, straight after the first's bytes.
+    pub second: u64,
 }

@@ -9,7 +9,8 @@ use std::fmt;
 #[non_exhaustive]
 #[repr(u32)]
 pub enum Reason {
-    /// The map has the wrong number of bytes.
+    /// The map has the wrong number of bytes, or is not as long as the copy that
+    /// it was to be written over.
     MapLength = 1,
     /// The disc record has a value that is not allowed, or a byte that has to be
     /// 0 is not.
@@ -85,7 +86,7 @@ impl Reason {
 
     fn words(self) -> &'static str {
         match self {
-            Reason::MapLength => "the map's size does not fit its record",
+            Reason::MapLength => "the map's size does not fit its record or the other copy",
             Reason::DiscRecord => "the disc record has a wrong value or is followed by rubbish",
             Reason::ZoneCheck => "the zone's check byte does not match its contents",
             Reason::CrossCheck => "the cross check bytes of all zones do not combine to 255",

@@ -3,224 +3,24 @@
 //! swept and released, and every other must stay as it was. Of a drive of 255
 //! zones and of an E+ disc of 1,000 there is the map alone.
 
+mod shapes;
+
+use shapes::{fresh_map, Shape};
+use shapes::{DRIVE_OF_255_ZONES, FLOPPY, HARD_DISC_256, HARD_DISC_512, PLUS_OF_1000_ZONES};
 use shoalswift::{
-    address, check, claim, free, geometry, list, place, release, sweep_free, sweep_object,
-    Geometry, Reason,
+    address, check, choose_copy, claim, copy_addresses, copy_over, free, geometry, list, place,
+    release, sweep_free, sweep_object, Geometry, MapCopy, Reason,
 };
 
-/// The judged fields of a disc record.
-#[derive(Clone, Copy)]
-struct Shape {
-    log2secsize: u8,
-    idlen: u8,
-    log2bpmb: u8,
-    nzones: u16,
-    zone_spare: u16,
-    disc_size: u32,
-    version: u8,
-}
-
-const FLOPPY: Shape = Shape {
-    log2secsize: 10,
-    idlen: 15,
-    log2bpmb: 7,
-    nzones: 1,
-    zone_spare: 1312,
-    disc_size: 819_200,
-    version: 0,
-};
-
-/// Clusters of 4 map bits; the last 64 map bits lie past the disc's end.
-const HARD_DISC_512: Shape = Shape {
-    log2secsize: 9,
-    idlen: 12,
-    log2bpmb: 7,
-    nzones: 5,
-    zone_spare: 32,
-    disc_size: (5 * 4064 - 480 - 64) * 128,
-    version: 0,
-};
-
-/// One map bit for each sector; the disc ends where its map does.
-const HARD_DISC_256: Shape = Shape {
-    log2secsize: 8,
-    idlen: 11,
-    log2bpmb: 8,
-    nzones: 5,
-    zone_spare: 32,
-    disc_size: (5 * 2016 - 480) * 256,
-    version: 0,
-};
-
-/// As many zones as there can be in version 0 (document 02, R-4).
-const DRIVE_OF_255_ZONES: Shape = Shape {
-    log2secsize: 8,
-    idlen: 15,
-    log2bpmb: 8,
-    nzones: 255,
-    zone_spare: 32,
-    disc_size: (255 * 2016 - 480) * 256,
-    version: 0,
-};
-
-/// E+ (document 02, R-12), with the longest ids: 100 in a zone, so that those of
-/// the higher zones have 17 bits.
-const PLUS_OF_1000_ZONES: Shape = Shape {
-    log2secsize: 8,
-    idlen: 19,
-    log2bpmb: 9,
-    nzones: 1000,
-    zone_spare: 32,
-    disc_size: (1000 * 2016 - 480) * 512,
-    version: 1,
-};
-
-impl Shape {
-    fn sector(&self) -> usize {
-        1 << self.log2secsize
+/// What the geometry of a disc's map must be.
+fn geometry_of(shape: &Shape) -> Geometry {
+    Geometry {
+        sector: shape.sector() as u32,
+        unit: shape.bytes_per_map_bit() as u32,
+        zones: shape.nzones as u32,
+        ids: shape.ids_per_zone(),
+        disc_size: shape.disc_size as u64,
     }
-
-    fn bytes_per_map_bit(&self) -> usize {
-        1 << self.log2bpmb
-    }
-
-    fn zones(&self) -> usize {
-        self.nzones as usize
-    }
-
-    fn zone_bits(&self) -> usize {
-        8 * self.sector() - self.zone_spare as usize
-    }
-
-    /// The shortest fragment: idlen + 1 map bits in whole clusters.
-    fn shortest(&self) -> usize {
-        let cluster = (self.sector() / self.bytes_per_map_bit()).max(1);
-        (self.idlen as usize + 1).div_ceil(cluster) * cluster
-    }
-
-    fn ids_per_zone(&self) -> u32 {
-        self.zone_bits() as u32 / (self.idlen as u32 + 1)
-    }
-
-    fn geometry(&self) -> Geometry {
-        Geometry {
-            sector: self.sector() as u32,
-            unit: self.bytes_per_map_bit() as u32,
-            zones: self.nzones as u32,
-            ids: self.ids_per_zone(),
-            disc_size: self.disc_size as u64,
-        }
-    }
-
-    /// The first allocation bit of a zone, in its block.
-    fn first_block_bit(&self, zone: usize) -> usize {
-        if zone == 0 {
-            512
-        } else {
-            32
-        }
-    }
-
-    /// The first disc bit of a zone.
-    fn first_disc_bit(&self, zone: usize) -> usize {
-        zone * self.zone_bits() + self.first_block_bit(zone) - 512
-    }
-
-    /// The block bit in the last zone where object 1 takes over.
-    fn disc_end(&self) -> usize {
-        let end = self.disc_size as usize / self.bytes_per_map_bit();
-        end + 512 - (self.zones() - 1) * self.zone_bits()
-    }
-
-    /// Object 2 holds two copies of the map and a directory of 2,048 bytes.
-    fn system_bits(&self) -> usize {
-        (2 * self.zones() * self.sector() + 2048).div_ceil(self.sector()) * self.sector()
-            / self.bytes_per_map_bit()
-    }
-
-    /// Object 2 starts in the middle zone. A hard disc has its boot block in
-    /// zone 0, in object 2 too.
-    fn system_bits_of_zone(&self, zone: usize) -> usize {
-        if zone == self.zones() / 2 {
-            self.system_bits()
-        } else if zone == 0 {
-            self.shortest().max(4096 / self.bytes_per_map_bit())
-        } else {
-            0
-        }
-    }
-}
-
-/// Writes a fragment: its id, lowest bit first, and the closing bit.
-fn draw(block: &mut [u8], start: usize, end: usize, idlen: u8, id: usize) {
-    for bit in 0..idlen as usize {
-        if id >> bit & 1 == 1 {
-            block[(start + bit) / 8] |= 1 << ((start + bit) % 8);
-        }
-    }
-    block[(end - 1) / 8] |= 1 << ((end - 1) % 8);
-}
-
-fn zone_check(block: &[u8]) -> u8 {
-    let (mut sum, mut carry) = (0u64, 0);
-    for index in (0..block.len() / 4).rev() {
-        let mut word: [u8; 4] = block[4 * index..4 * index + 4].try_into().unwrap();
-        if index == 0 {
-            word[0] = 0;
-        }
-        sum += u32::from_le_bytes(word) as u64 + carry;
-        carry = sum >> 32;
-        sum &= 0xFFFF_FFFF;
-    }
-    (sum as u32).to_le_bytes().iter().fold(0, |all, b| all ^ b)
-}
-
-fn write_record(map: &mut [u8], shape: &Shape) {
-    map[4] = shape.log2secsize;
-    map[8] = shape.idlen;
-    map[9] = shape.log2bpmb;
-    let [low, high] = shape.nzones.to_le_bytes();
-    map[13] = low;
-    map[46] = high;
-    map[48] = shape.version;
-    map[14..16].copy_from_slice(&shape.zone_spare.to_le_bytes());
-    map[20..24].copy_from_slice(&shape.disc_size.to_le_bytes());
-    map[26..36].copy_from_slice(b"BenchDisc0");
-}
-
-/// A zone of a fresh disc: object 2 where it belongs, then free room, then
-/// object 1 past the disc's end.
-fn draw_zone(block: &mut [u8], shape: &Shape, zone: usize) {
-    let end = 32 + shape.zone_bits();
-    let mut start = shape.first_block_bit(zone);
-    let system = shape.system_bits_of_zone(zone);
-    if system > 0 {
-        draw(block, start, start + system, shape.idlen, 2);
-        start += system;
-    }
-    let mut free_end = end;
-    if zone == shape.zones() - 1 && shape.disc_end() < end {
-        free_end = shape.disc_end();
-        draw(block, free_end, end, shape.idlen, 1);
-    }
-    draw(block, start, free_end, shape.idlen, 0);
-    let link = 0x8000 | (start - 8) as u16;
-    block[1..3].copy_from_slice(&link.to_le_bytes());
-}
-
-/// The map of a fresh disc.
-fn fresh_map(shape: &Shape) -> Vec<u8> {
-    let mut map = vec![0; shape.zones() * shape.sector()];
-    write_record(&mut map, shape);
-    let mut cross = 255;
-    for zone in (0..shape.zones()).rev() {
-        let block = &mut map[zone * shape.sector()..][..shape.sector()];
-        draw_zone(block, shape, zone);
-        block[3] = if zone == 0 { cross } else { (17 * zone) as u8 };
-        cross ^= block[3];
-        block[0] = zone_check(block);
-    }
-    map
 }
 
 /// A file: its id and all bytes of its pieces, joined in object order.
@@ -279,7 +79,7 @@ impl Disc {
     fn new(shape: Shape) -> Disc {
         let map = fresh_map(&shape);
         assert_eq!(check(&map), Ok(()));
-        assert_eq!(geometry(&map), Ok(shape.geometry()));
+        assert_eq!(geometry(&map), Ok(geometry_of(&shape)));
         let mut disc = Disc {
             shape,
             map,
@@ -334,18 +134,52 @@ impl Disc {
 
     /// The map is on the disc itself, twice, where the middle zone starts.
     fn add_map_copies(&mut self) {
+        let at = copy_addresses(&self.map).expect("the map is accepted");
         let bit = self.shape.first_disc_bit(self.shape.zones() / 2);
-        let at = bit * self.shape.bytes_per_map_bit();
-        let length = self.map.len();
-        self.image[at..at + length].copy_from_slice(&self.map);
-        self.image[at + length..at + 2 * length].copy_from_slice(&self.map);
+        assert_eq!(at.first, (bit * self.shape.bytes_per_map_bit()) as u64);
+        assert_eq!(at.second, at.first + self.map.len() as u64);
+        for at in [at.first as usize, at.second as usize] {
+            self.image[at..at + self.map.len()].copy_from_slice(&self.map);
+        }
         let found = address(&self.map, 0x200, 0).expect("every map has object 2");
-        assert_eq!(found.address, at as u64);
-        assert!(
-            found.run >= 2 * length as u64,
-            "both copies are in one piece"
-        );
+        assert_eq!(found.address, at.first);
+        let both = 2 * self.map.len() as u64;
+        assert!(found.run >= both, "both copies are in one piece");
     }
+}
+
+/// The two copies of the map, as parts of the image.
+fn map_copies<'a>(disc: &Disc, image: &'a mut [u8]) -> (&'a mut [u8], &'a mut [u8]) {
+    let at = copy_addresses(&disc.map).expect("the map is accepted");
+    let both = &mut image[at.first as usize..][..2 * disc.map.len()];
+    both.split_at_mut((at.second - at.first) as usize)
+}
+
+/// The map is read out of the image, with either copy spoilt, which is then
+/// written anew from the other.
+fn copies_stand_in(disc: &Disc) {
+    let mut image = disc.image.clone();
+    let (first, second) = map_copies(disc, &mut image);
+    let choice = choose_copy(first, second);
+    assert_eq!(choice.accepted, Ok(MapCopy::First(&disc.map)));
+    assert!(choice.equal);
+
+    first[disc.map.len() - 1] ^= 1;
+    let choice = choose_copy(first, second);
+    assert_eq!(choice.accepted, Ok(MapCopy::Second(&disc.map)));
+    assert!(!choice.equal);
+    assert!(
+        copy_over(first, second).is_err(),
+        "a spoilt map is not copied"
+    );
+    assert_eq!(copy_over(second, first), Ok(()));
+
+    second[0] ^= 1;
+    let choice = choose_copy(first, second);
+    assert_eq!(choice.accepted, Ok(MapCopy::First(&disc.map)));
+    assert!(!choice.equal);
+    assert_eq!(copy_over(first, second), Ok(()));
+    assert!(image == disc.image, "both copies are as they were");
 }
 
 /// Reads a whole file through `address`, run by run, and asks once for each
@@ -458,6 +292,7 @@ fn end_to_end(shape: Shape) {
         wipe_and_undo(&disc, file);
     }
     sweep_what_is_free(&disc);
+    copies_stand_in(&disc);
 }
 
 #[test]
@@ -548,7 +383,7 @@ fn cross_checks_change_by_the_rule_and_no_other_zone_does() {
 /// start zone on: placed, listed, and released again.
 fn goes_round(shape: &Shape, zones: &[usize; 5]) {
     let fresh = fresh_map(shape);
-    assert_eq!(geometry(&fresh), Ok(shape.geometry()));
+    assert_eq!(geometry(&fresh), Ok(geometry_of(shape)));
     let id = zones[0] as u32 * shape.ids_per_zone();
     let entries = one_piece_in_each(shape, zones);
     let mut map = fresh.clone();

@@ -80,6 +80,7 @@ fn reference(case: &Case, lent: &mut Lent) -> Answer {
             edit::claim(map, wide).map(|new| [new.id, new.start, new.length].map(u64::from))
         }
         Call::Address | Call::SweepObject => unreachable!("not measured"),
+        Call::ChooseCopy | Call::CopyOver | Call::CopyAddresses => unreachable!("not measured"),
     };
     let (number, zone, values) = match answer {
         Ok(values) => (0, 0, values),

@@ -1,9 +1,11 @@
 //! E+ maps (R-12 of document 02) of more zones than the generator makes, with a
 //! few calls on each: what is given out is given back, so that every byte must be
-//! as before.
+//! as before. Two more are there for the addresses of their copies alone.
 
 use reference::case::{Call, Case};
-use reference::generate::{map_of_zones, record_of_zones, repair_zone_checks, with_bytes};
+use reference::generate::{
+    map_of_a_high_copy, map_of_zones, record_of_zones, repair_zone_checks, with_bytes,
+};
 use reference::geometry::{DiscRecord, Edition, DISC_RECORD, NZONES_HIGH};
 use reference::map::{check, CheckedMap, Fragment};
 
@@ -34,10 +36,16 @@ pub fn maps() -> Vec<Named> {
     let most = map_of_zones(&most_zones());
     let one_more = Case::new(Call::Check, &with_a_zone_more(&most));
     assert_eq!(one_more.run().number, 2);
+    let of_255 = map_of_zones(&record_of_zones(8, 255, Edition::E));
+    let of_255 = Case::new(Call::CopyAddresses, &of_255);
+    let high = Case::new(Call::CopyAddresses, &map_of_a_high_copy());
+    assert!(high.run().values[1] > 1 << 32);
     vec![
         ("the E+ map of 1,000 zones".to_string(), cases(&thousand)),
         ("the E+ map of 20,971 zones".to_string(), cases(&most)),
         ("the E+ map of 20,972 zones".to_string(), vec![one_more]),
+        ("the map of 255 zones".to_string(), vec![of_255]),
+        ("the E+ map of a high copy".to_string(), vec![high]),
     ]
 }
 
@@ -66,6 +74,7 @@ fn cases(map: &[u8]) -> Vec<Case> {
     released_and_placed(&mut cases, map, last);
     placed_and_released(&mut cases, &checked, map, ids / 3 * 2);
     claimed_and_released(&mut cases, map);
+    copied(&mut cases, map);
     cases
 }
 
@@ -132,4 +141,18 @@ fn claimed_and_released(cases: &mut Vec<Case>, map: &[u8]) {
     let too_large = claim.clone();
     claim.wide = 1;
     cases.extend([claim, too_large, release]);
+}
+
+/// The first of two copies has a wrong zone check in its last block; the second is
+/// chosen and written over it.
+fn copied(cases: &mut Vec<Case>, map: &[u8]) {
+    let mut choose = Case::new(Call::ChooseCopy, map);
+    let last = map.len() - 256;
+    choose.map[last] ^= 1;
+    choose.image = map.to_vec();
+    assert_eq!(choose.run().values, [2, 0]);
+    let mut copy = Case::new(Call::CopyOver, map);
+    copy.image = choose.map.clone();
+    assert!(copy.run().image == map);
+    cases.extend([choose, copy, Case::new(Call::CopyAddresses, map)]);
 }

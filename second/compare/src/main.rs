@@ -11,13 +11,15 @@
 use std::env;
 use std::process::ExitCode;
 
+mod copies;
 mod large;
 mod program;
 
+use copies::Copies;
 use product::Told;
 use program::Program;
 use reference::case::{Call, Case, Outcome, CALLS};
-use reference::generate::{play, play_addresses, Sizes};
+use reference::generate::{play, play_addresses, play_copies, Sizes};
 use reference::geometry::{DiscRecord, LARGEST_MAP};
 use reference::map::{check, only_reserved_bytes_are_wrong, CheckedMap};
 
@@ -207,7 +209,7 @@ fn seeds() -> Result<std::ops::Range<u64>, String> {
 /// What was compared so far, and what differed.
 struct Tally {
     /// By call and by number.
-    compared: [[u64; 18]; 10],
+    compared: [[u64; 18]; CALLS.len() + 1],
     /// Geometries, by number. Each map that comes up has its own told once.
     geometries: [u64; 18],
     /// Accepted maps of more than 127 zones (R-4 of document 02).
@@ -223,6 +225,7 @@ struct Tally {
     /// of document 02).
     touching: u64,
     touching_across_zones: u64,
+    copies: Copies,
     last_map: Vec<u8>,
     differences: u64,
     smallest: Option<Difference>,
@@ -231,7 +234,7 @@ struct Tally {
 impl Tally {
     fn new() -> Tally {
         Tally {
-            compared: [[0; 18]; 10],
+            compared: [[0; 18]; CALLS.len() + 1],
             geometries: [0; 18],
             many_zones: 0,
             dirty_records: 0,
@@ -239,6 +242,7 @@ impl Tally {
             above_255_zones: 0,
             touching: 0,
             touching_across_zones: 0,
+            copies: Copies::default(),
             last_map: Vec::new(),
             differences: 0,
             smallest: None,
@@ -339,7 +343,7 @@ impl Tally {
     }
 
     fn print_table(&self) {
-        print!("{:12}", "call");
+        print!("{:14}", "call");
         for number in 0..18 {
             print!("{number:>7}");
         }
@@ -367,6 +371,7 @@ impl Tally {
              {} of them across a zone's end",
             self.touching, self.touching_across_zones
         );
+        self.copies.print();
     }
 
     /// What is wrong with the whole run, in lines; none where all agree and
@@ -390,6 +395,14 @@ impl Tally {
         for number in (0..=7).filter(|number| self.geometries[*number] == 0) {
             lines.push(format!("no geometry was answered with {number}"));
         }
+        lines.extend(self.never_counted());
+        lines.extend(self.copies.complaints(&self.compared));
+        lines
+    }
+
+    /// What the counts of document 02's requests lack.
+    fn never_counted(&self) -> Vec<String> {
+        let mut lines = Vec::new();
         for (count, complaint) in [
             (
                 self.dirty_records,
@@ -418,7 +431,7 @@ impl Tally {
 }
 
 fn print_row(name: &str, counts: &[u64; 18]) {
-    print!("{name:12}");
+    print!("{name:14}");
     for count in counts {
         print!("{count:>7}");
     }
@@ -452,10 +465,12 @@ fn compare(seeds: std::ops::Range<u64>, program: &mut Option<Program>) -> Tally 
                 tally.count(&case.map, &told);
             }
             tally.compare(&of, step, case, ours);
+            tally.copies.count(case, ours);
             step += 1;
         };
         play(seed, &sizes, &mut visit);
         play_addresses(seed, &sizes, &mut visit);
+        play_copies(seed, &sizes, &mut visit);
     }
     tally
 }

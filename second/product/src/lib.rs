@@ -20,9 +20,11 @@ pub struct Answer {
 /// What every number lent holds before a call, which must write them all.
 const UNWRITTEN: u64 = 0xDEAD_BEEF_DEAD_BEEF;
 
-/// The functions of one version of the product. As `LINKED` is made of those
-/// declared, the compiler sees that the types are today's. An earlier version
-/// with other signatures cannot be compared; of address see `opened`.
+/// The functions of one version of the product that are made on one map. As `LINKED`
+/// is made of those declared, the compiler sees that the types are today's. An
+/// earlier version with other signatures cannot be compared; of address see `opened`.
+/// Those on two copies (R-5 of document 02) are none of these, as they are not timed
+/// and earlier versions have none.
 #[derive(Clone, Copy)]
 pub struct Calls {
     check: unsafe extern "C" fn(*const u8, usize, *mut u32) -> u32,
@@ -61,8 +63,8 @@ impl Calls {
         claim: shoalswift_claim,
     };
 
-    /// Makes a case's call on the bytes and entries lent in place of its own.
-    /// Inlined, so that the frame which hands the arguments over is one.
+    /// Makes a case's call, one on one map, on the bytes and entries lent in place of
+    /// its own. Inlined, so that the frame which hands the arguments over is one.
     #[inline(always)]
     pub fn call(&self, case: &Case, map: &mut [u8], list: &mut [u32], image: &mut [u8]) -> Answer {
         let (map, map_len) = (map.as_mut_ptr(), map.len());
@@ -91,25 +93,67 @@ impl Calls {
                 Call::Claim => {
                     (self.claim)(map, map_len, wide, &mut new, &mut start, &mut length, z)
                 }
+                _ => unreachable!("it is made on two copies"),
             }
-        };
-        let values = match case.call.values() {
-            0 => [0; 3],
-            1 => [value, 0, 0],
-            2 => [value, run, 0],
-            _ => [new, start, length].map(u64::from),
         };
         Answer {
             number,
             zone,
-            values,
+            values: values(case.call, [value, run], [new, start, length]),
         }
     }
 }
 
-/// Makes a case's call by the linked product, as `Calls::call` does.
+/// The values of a call on one map, of the numbers lent for them. Inlined too.
+#[inline(always)]
+fn values(call: Call, [value, run]: [u64; 2], claimed: [u32; 3]) -> [u64; 3] {
+    match call.values() {
+        0 => [0; 3],
+        1 => [value, 0, 0],
+        2 => [value, run, 0],
+        _ => claimed.map(u64::from),
+    }
+}
+
+/// Makes a case's call by the linked product, as `Calls::call` does. Of two copies of a
+/// map the second or the target is lent in place of the image.
 pub fn call(case: &Case, map: &mut [u8], list: &mut [u32], image: &mut [u8]) -> Answer {
-    Calls::LINKED.call(case, map, list, image)
+    match case.call {
+        Call::ChooseCopy | Call::CopyOver | Call::CopyAddresses => {
+            call_on_copies(case.call, map, image)
+        }
+        _ => Calls::LINKED.call(case, map, list, image),
+    }
+}
+
+/// Makes a call on the first or only copy of a map and the other one. Inlined for the
+/// same reason as `Calls::call`.
+#[inline(always)]
+fn call_on_copies(call: Call, one: &mut [u8], other: &mut [u8]) -> Answer {
+    let (one, one_len) = (one.as_mut_ptr(), one.len());
+    let (other, other_len) = (other.as_mut_ptr(), other.len());
+    let (mut zone, mut first, mut second) = (UNWRITTEN as u32, UNWRITTEN, UNWRITTEN);
+    let (mut which, mut equal) = (zone, zone);
+    let (w, e, z) = (&mut which, &mut equal, &mut zone);
+    // SAFETY: each pointer and length are a slice's borrowed by this function alone,
+    // or point to a local number.
+    let number = unsafe {
+        match call {
+            Call::ChooseCopy => shoalswift_choose_copy(one, one_len, other, other_len, w, e, z),
+            Call::CopyOver => shoalswift_copy_over(one, one_len, other, other_len, z),
+            _ => shoalswift_copy_addresses(one, one_len, &mut first, &mut second, z),
+        }
+    };
+    let values = match call {
+        Call::ChooseCopy => [which, equal, 0].map(u64::from),
+        Call::CopyOver => [0; 3],
+        _ => [first, second, 0],
+    };
+    Answer {
+        number,
+        zone,
+        values,
+    }
 }
 
 /// What the check tells of a record: S, B, nzones, P and disc_size.

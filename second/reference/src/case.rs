@@ -1,6 +1,8 @@
 //! One call with all it is lent, what came of it, and the stored forms.
 
-use crate::{edit, map, read, Refusal};
+use std::fmt::Display;
+
+use crate::{copies, edit, map, read, Refusal};
 
 /// The calls, numbered as in a stored case.
 #[derive(Clone, Copy, Debug, PartialEq, Eq, PartialOrd, Ord)]
@@ -14,9 +16,12 @@ pub enum Call {
     Release,
     Place,
     Claim,
+    ChooseCopy,
+    CopyOver,
+    CopyAddresses,
 }
 
-pub const CALLS: [Call; 9] = [
+pub const CALLS: [Call; 12] = [
     Call::Check,
     Call::List,
     Call::Free,
@@ -26,7 +31,14 @@ pub const CALLS: [Call; 9] = [
     Call::Release,
     Call::Place,
     Call::Claim,
+    Call::ChooseCopy,
+    Call::CopyOver,
+    Call::CopyAddresses,
 ];
+
+/// Those of document 01, which are made on one map. The others are about a map's two
+/// copies (R-5 of document 02).
+pub const CALLS_ON_ONE_MAP: &[Call] = CALLS.split_at(9).0;
 
 impl Call {
     pub fn name(self) -> &'static str {
@@ -40,10 +52,14 @@ impl Call {
             Call::Release => "release",
             Call::Place => "place",
             Call::Claim => "claim",
+            Call::ChooseCopy => "choose_copy",
+            Call::CopyOver => "copy_over",
+            Call::CopyAddresses => "copy_addresses",
         }
     }
 
-    /// The refusals that document 01's table allows the call, 14 left out.
+    /// The refusals that document 01's table allows the call, 14 left out, and for the
+    /// last three R-5 of document 02.
     pub fn refusals(self) -> Vec<u32> {
         let mut numbers: Vec<u32> = (1..=7).collect();
         numbers.extend_from_slice(match self {
@@ -56,6 +72,7 @@ impl Call {
             Call::Release => &[8, 9, 10, 17],
             Call::Place => &[8, 9, 11, 12, 13],
             Call::Claim => &[9, 12, 15],
+            Call::ChooseCopy | Call::CopyOver | Call::CopyAddresses => &[],
         });
         numbers
     }
@@ -63,10 +80,19 @@ impl Call {
     /// How many numbers it answers besides the refusal's number and zone.
     pub fn values(self) -> usize {
         match self {
-            Call::Check | Call::Place => 0,
-            Call::Address => 2,
+            Call::Check | Call::Place | Call::CopyOver => 0,
+            Call::Address | Call::ChooseCopy | Call::CopyAddresses => 2,
             Call::Claim => 3,
             _ => 1,
+        }
+    }
+
+    /// How many of them, the first ones, are 0 where it is refused: all, but that
+    /// whether two copies are equal is told of refused ones too.
+    pub fn zeros(self) -> usize {
+        match self {
+            Call::ChooseCopy => 1,
+            _ => self.values(),
         }
     }
 
@@ -81,6 +107,11 @@ impl Call {
     pub fn writes_image(self) -> bool {
         matches!(self, Call::SweepObject | Call::SweepFree)
     }
+
+    /// Whether it writes the map copy that is lent in place of an image.
+    pub fn writes_copy(self) -> bool {
+        self == Call::CopyOver
+    }
 }
 
 /// A call with its arguments and the bytes and entries lent to it.
@@ -92,8 +123,10 @@ pub struct Case {
     pub number: u32,
     /// The position, first disc address or size.
     pub wide: u64,
+    /// The map. Of two copies the first, or the source.
     pub map: Vec<u8>,
     pub list: Vec<u32>,
+    /// The image. Of two copies the second, or the target.
     pub image: Vec<u8>,
 }
 
@@ -128,31 +161,14 @@ impl Case {
         let mut map = self.map.clone();
         let mut list = self.list.clone();
         let mut image = self.image.clone();
-        let (id, wide, fill) = (self.number, self.wide, self.fill);
-        let one = |answer: Result<u64, Refusal>| answer.map(|value| vec![value]);
-        let answer = match self.call {
-            Call::Check => map::check(&map).map(|_| vec![]),
-            Call::List => one(read::list(&map, id, &mut list)),
-            Call::Free => one(read::free(&map, &mut list)),
-            Call::Address => {
-                read::address(&map, id, wide).map(|location| vec![location.address, location.run])
-            }
-            Call::SweepObject => one(read::sweep_object(&map, &mut image, wide, fill, id)),
-            Call::SweepFree => one(read::sweep_free(&map, &mut image, wide, fill)),
-            Call::Release => one(edit::release(&mut map, id, &mut list)),
-            Call::Place => edit::place(&mut map, id, &list).map(|_| vec![]),
-            Call::Claim => edit::claim(&mut map, wide).map(|claimed| {
-                vec![
-                    claimed.id as u64,
-                    claimed.start as u64,
-                    claimed.length as u64,
-                ]
-            }),
+        let (refusal, values) = match self.call {
+            Call::ChooseCopy => chosen(&map, &image),
+            _ => match self.answer(&mut map, &mut list, &mut image) {
+                Ok(values) => (None, values),
+                Err(refusal) => (Some(refusal), vec![0; self.call.values()]),
+            },
         };
-        let (number, zone, values) = match answer {
-            Ok(values) => (0, 0, values),
-            Err(refusal) => (refusal.number, refusal.zone, vec![0; self.call.values()]),
-        };
+        let (number, zone) = refusal.map_or((0, 0), |refusal| (refusal.number, refusal.zone));
         Outcome {
             number,
             zone,
@@ -160,6 +176,36 @@ impl Case {
             map,
             list,
             image,
+        }
+    }
+
+    /// Runs the call on what is lent here, and answers its values.
+    fn answer(
+        &self,
+        map: &mut [u8],
+        list: &mut [u32],
+        image: &mut [u8],
+    ) -> Result<Vec<u64>, Refusal> {
+        let (id, wide, fill) = (self.number, self.wide, self.fill);
+        let one = |answer: Result<u64, Refusal>| answer.map(|value| vec![value]);
+        match self.call {
+            Call::Check => map::check(map).map(|_| vec![]),
+            Call::List => one(read::list(map, id, list)),
+            Call::Free => one(read::free(map, list)),
+            Call::Address => {
+                read::address(map, id, wide).map(|location| vec![location.address, location.run])
+            }
+            Call::SweepObject => one(read::sweep_object(map, image, wide, fill, id)),
+            Call::SweepFree => one(read::sweep_free(map, image, wide, fill)),
+            Call::Release => one(edit::release(map, id, list)),
+            Call::Place => edit::place(map, id, list).map(|_| vec![]),
+            Call::Claim => edit::claim(map, wide)
+                .map(|new| [new.id, new.start, new.length].map(u64::from).to_vec()),
+            Call::ChooseCopy => unreachable!("it has a value where it is refused"),
+            Call::CopyOver => copies::copy_over(map, image).map(|_| vec![]),
+            Call::CopyAddresses => {
+                copies::copy_addresses(map).map(|copies| vec![copies.first, copies.second])
+            }
         }
     }
 
@@ -187,36 +233,55 @@ impl Case {
             line += &format!(" {value}");
         }
         if self.call.writes_list() {
-            line += " list";
-            for (index, entry) in outcome.list.iter().enumerate() {
-                if *entry != self.list[index] {
-                    line += &format!(" {index}={entry}");
-                }
-            }
+            line += &changed("list", &self.list, &outcome.list);
         }
         if self.call.writes_map() {
-            line += " map";
-            for (index, byte) in outcome.map.iter().enumerate() {
-                if *byte != self.map[index] {
-                    line += &format!(" {index}={byte}");
-                }
-            }
+            line += &changed("map", &self.map, &outcome.map);
         }
         if self.call.writes_image() {
-            line += " image";
-            let mut index = 0;
-            while index < self.image.len() {
-                if outcome.image[index] == self.image[index] {
-                    index += 1;
-                    continue;
-                }
-                let from = index;
-                while index < self.image.len() && outcome.image[index] != self.image[index] {
-                    index += 1;
-                }
-                line += &format!(" {from}..{index}");
-            }
+            line += &changed_runs(&self.image, &outcome.image);
+        }
+        if self.call.writes_copy() {
+            line += &changed("copy", &self.image, &outcome.image);
         }
         line
     }
+}
+
+/// The first copy's refusal where both are refused, and the values: 1 for the first, 2
+/// for the second or 0, and 1 where they are equal.
+fn chosen(first: &[u8], second: &[u8]) -> (Option<Refusal>, Vec<u64>) {
+    let choice = copies::choose_copy(first, second);
+    let which = choice.chosen.map_or(0, |(which, _)| which);
+    let values = vec![which as u64, choice.equal as u64];
+    (choice.chosen.err(), values)
+}
+
+/// A name, and each changed entry or byte.
+fn changed<T: PartialEq + Display>(name: &str, before: &[T], after: &[T]) -> String {
+    let mut text = format!(" {name}");
+    for (index, (old, new)) in before.iter().zip(after).enumerate() {
+        if new != old {
+            text += &format!(" {index}={new}");
+        }
+    }
+    text
+}
+
+/// Each longest run of changed bytes of an image.
+fn changed_runs(before: &[u8], after: &[u8]) -> String {
+    let mut text = " image".to_string();
+    let mut index = 0;
+    while index < before.len() {
+        if after[index] == before[index] {
+            index += 1;
+            continue;
+        }
+        let from = index;
+        while index < before.len() && after[index] != before[index] {
+            index += 1;
+        }
+        text += &format!(" {from}..{index}");
+    }
+    text
 }

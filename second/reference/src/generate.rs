@@ -1,9 +1,10 @@
 //! A deterministic generator: maps over all geometries of document 01, damage
-//! to them, arguments for each call, and runs of calls. A seed decides all.
+//! to them, arguments for each call, runs of calls, and pairs of copies. A seed
+//! decides all.
 
 use std::ops::Range;
 
-use crate::case::{Call, Case, Outcome, CALLS};
+use crate::case::{Call, Case, Outcome, CALLS_ON_ONE_MAP};
 use crate::geometry::{
     DiscRecord, Edition, Geometry, MOST_ZONES, NZONES_HIGH, RESERVED, SIZE_HIGH, VERSION,
     ZONE_0_SHORTFALL,
@@ -786,13 +787,18 @@ pub fn any_map(rng: &mut Rng, largest_map: usize) -> Vec<u8> {
         return noise(rng, largest_map);
     }
     let record = disc_record(rng, largest_map);
-    let sector_size = 1 << record.log2secsize;
-    let mut map = valid_map(rng, &record);
+    let map = valid_map(rng, &record);
+    spoilt(rng, map)
+}
+
+/// A valid map after any damage but noise. Now and then it is accepted all the same.
+fn spoilt(rng: &mut Rng, mut map: Vec<u8>) -> Vec<u8> {
+    let geometry = check(&map).expect("a valid map").geometry;
+    let sector_size = geometry.sector_size;
     let mut aside = rng.aside();
     if aside.percent(8) {
         // Nothing wrong but what R-12 of document 02 brought.
-        let edition = check(&map).expect("a valid map").geometry.edition;
-        damage_edition(&mut aside, &mut map, edition);
+        damage_edition(&mut aside, &mut map, geometry.edition);
         repair(&mut map, sector_size);
         return map;
     }
@@ -1223,6 +1229,9 @@ pub fn arguments(rng: &mut Rng, call: Call, map: &[u8], sizes: &Sizes, memory: &
             case.list.truncate(sizes.list);
         }
         Call::Claim => case.wide = some_size(rng, &checked),
+        Call::ChooseCopy | Call::CopyOver | Call::CopyAddresses => {
+            unreachable!("copies are made in pairs")
+        }
     }
     case
 }
@@ -1238,8 +1247,9 @@ fn old_image(rng: &mut Rng, length: usize, fill: u8) -> Vec<u8> {
 
 // ---------------------------------------------------------------------- runs
 
-/// Plays the calls of one seed: every call on a valid map, a run of edits on
-/// one map, or calls on a damaged map. Each goes to `visit` with its outcome.
+/// Plays the calls of one seed: every call of document 01 on a valid map, a run of
+/// edits on one map, or calls on a damaged map. Each goes to `visit` with its
+/// outcome.
 pub fn play(seed: u64, sizes: &Sizes, visit: &mut dyn FnMut(&Case, &Outcome)) {
     let mut rng = Rng::new(seed);
     let rng = &mut rng;
@@ -1254,10 +1264,10 @@ pub fn play(seed: u64, sizes: &Sizes, visit: &mut dyn FnMut(&Case, &Outcome)) {
         0..=3 => {
             let record = disc_record(rng, largest_map);
             let map = valid_map(rng, &record);
-            for call in CALLS {
-                let times = if call == Call::Check { 1 } else { 2 };
+            for call in CALLS_ON_ONE_MAP {
+                let times = if *call == Call::Check { 1 } else { 2 };
                 for _ in 0..times {
-                    let case = arguments(rng, call, &map, sizes, &Memory::new());
+                    let case = arguments(rng, *call, &map, sizes, &Memory::new());
                     visit(&case, &case.run());
                 }
             }
@@ -1271,7 +1281,7 @@ pub fn play(seed: u64, sizes: &Sizes, visit: &mut dyn FnMut(&Case, &Outcome)) {
             let map = any_map(rng, largest_map);
             let mut calls = vec![Call::Check];
             for _ in 0..3 {
-                calls.push(rng.pick(&CALLS));
+                calls.push(rng.pick(CALLS_ON_ONE_MAP));
             }
             for call in calls {
                 let case = arguments(rng, call, &map, sizes, &Memory::new());
@@ -1383,6 +1393,127 @@ fn play_run(
             memory.push((case.number, outcome.list[..entries].to_vec()));
         }
         map = outcome.map;
+    }
+}
+
+// -------------------------------------------------------------------- copies
+
+/// The first and the second copy of a map (R-5 of document 02).
+pub type Copies = (Vec<u8>, Vec<u8>);
+
+/// The copies as a station leaves them that writes a new map over the second and then
+/// over the first, byte by byte, and is cut off after so many bytes. Both were the
+/// old map before, which is as long as the new one.
+pub fn cut_off(old: &[u8], new: &[u8], written: usize) -> Copies {
+    let half_written = |bytes: usize| [&new[..bytes], &old[bytes..]].concat();
+    let in_second = written.min(new.len());
+    (half_written(written - in_second), half_written(in_second))
+}
+
+/// A map after some edit that is accepted on it; as it was where none was found.
+pub fn edited(rng: &mut Rng, map: &[u8], sizes: &Sizes) -> Vec<u8> {
+    for _ in 0..6 {
+        let call = rng.pick(&[Call::Release, Call::Place, Call::Place, Call::Claim]);
+        let outcome = arguments(rng, call, map, sizes, &Memory::new()).run();
+        if outcome.number == 0 {
+            return outcome.map;
+        }
+    }
+    map.to_vec()
+}
+
+/// After how many bytes a station is cut off that writes two copies of a map: every
+/// second time at a block's edge, where the rest of the copy may match.
+fn some_written(rng: &mut Rng, map: &[u8]) -> usize {
+    let sector_size = check(map).expect("a valid map").geometry.sector_size;
+    let any = rng.below(2 * map.len() + 1);
+    match rng.below(2) {
+        0 => any / sector_size * sector_size,
+        _ => any,
+    }
+}
+
+/// The bytes of a map in another length: fewer or more, by a byte, a block or any
+/// number.
+fn in_another_length(rng: &mut Rng, map: &[u8]) -> Vec<u8> {
+    let sector_size = check(map).expect("a valid map").geometry.sector_size;
+    let length = match rng.below(6) {
+        0 => map.len() - 1,
+        1 => map.len() + 1,
+        2 => map.len() - sector_size,
+        3 => map.len() + sector_size,
+        4 => rng.below(map.len()),
+        _ => map.len() + rng.between(1, 300),
+    };
+    let mut other = map.to_vec();
+    other.resize(length, rng.byte());
+    other
+}
+
+/// A map with another value in one byte: the first, the last or any.
+fn with_another_byte(rng: &mut Rng, map: &[u8]) -> Vec<u8> {
+    let mut other = map.to_vec();
+    let any = rng.below(map.len());
+    let at = rng.pick(&[0, map.len() - 1, any]);
+    other[at] ^= rng.between(1, 255) as u8;
+    other
+}
+
+/// Two copies, mostly of one map that is right in at least one of them: equal ones,
+/// with damage to one or to both, with an edit or a part of it in one, of unequal
+/// lengths, of two discs, or empty.
+pub fn some_copies(rng: &mut Rng, largest_map: usize, sizes: &Sizes) -> Copies {
+    let record = disc_record(rng, largest_map);
+    let map = valid_map(rng, &record);
+    match rng.below(20) {
+        0 | 1 => (map.clone(), map),
+        2 | 3 => {
+            let other = spoilt(rng, map);
+            (other.clone(), other)
+        }
+        4..=6 => (spoilt(rng, map.clone()), map),
+        7..=10 => (spoilt(rng, map.clone()), spoilt(rng, map)),
+        11 => (edited(rng, &map, sizes), map),
+        12..=14 => {
+            let new = edited(rng, &map, sizes);
+            let written = some_written(rng, &map);
+            cut_off(&map, &new, written)
+        }
+        15 => (with_another_byte(rng, &map), map),
+        16 => (in_another_length(rng, &map), map),
+        17 => (any_map(rng, largest_map), map),
+        18 => (any_map(rng, largest_map), spoilt(rng, map)),
+        _ => {
+            let one = match rng.below(3) {
+                0 => Vec::new(),
+                1 => spoilt(rng, map),
+                _ => map,
+            };
+            (one, Vec::new())
+        }
+    }
+}
+
+/// Plays the calls on copies of one seed, beside those of `play`: on one pair, and on
+/// the same pair the other way round.
+pub fn play_copies(seed: u64, sizes: &Sizes, visit: &mut dyn FnMut(&Case, &Outcome)) {
+    // Neither the map that `play` makes nor that of `play_addresses`.
+    let mut rng = Rng::new(Rng::new(seed).aside().word());
+    let rng = &mut rng;
+    let largest_map = match rng.below(50) {
+        0 => sizes.map,
+        1..=5 => sizes.map.min(8_192),
+        _ => sizes.map.min(2_048),
+    };
+    let (first, second) = some_copies(rng, largest_map, sizes);
+    for (one, other) in [(&first, &second), (&second, &first)] {
+        for call in [Call::ChooseCopy, Call::CopyOver] {
+            let mut case = Case::new(call, one);
+            case.image = other.clone();
+            visit(&case, &case.run());
+        }
+        let case = Case::new(Call::CopyAddresses, one);
+        visit(&case, &case.run());
     }
 }
 
@@ -1517,6 +1648,27 @@ pub fn map_of_zones(record: &DiscRecord) -> Vec<u8> {
     };
     let zones: Vec<_> = (0..geometry.nzones).map(zone).collect();
     build(record, &zones)
+}
+
+/// A map of an E+ disc whose middle zone starts 49 map bits of 4,096 bytes before
+/// address 2^32. Its 1,058 blocks of 256 bytes are longer than that, so that the
+/// address of the second copy (R-5 of document 02) has 33 bits.
+pub fn map_of_a_high_copy() -> Vec<u8> {
+    let record = DiscRecord {
+        log2secsize: 8,
+        idlen: 17,
+        log2bpmb: 12,
+        nzones: 1_058,
+        zone_spare: 2_048 - 1_983,
+        disc_size: 0xFFFF_FF00,
+        size_high: 0,
+        version: 1,
+    };
+    let mut zones = vec![vec![(Owner::Free, 1_983)]; 529];
+    zones[0] = vec![(Owner::Free, 1_983 - ZONE_0_SHORTFALL)];
+    zones.push(vec![(Owner::Object(2), 18), (Owner::Object(1), 1_965)]);
+    zones.resize(1_058, vec![(Owner::Object(1), 1_983)]);
+    build(&record, &zones)
 }
 
 /// The record of an 800K floppy.

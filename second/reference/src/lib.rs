@@ -7,6 +7,7 @@
 #![forbid(unsafe_code)]
 
 pub mod case;
+pub mod copies;
 pub mod edit;
 pub mod generate;
 pub mod geometry;

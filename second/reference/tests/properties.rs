@@ -2,10 +2,11 @@
 
 use std::collections::BTreeMap;
 
-use reference::case::{Call, Case, CALLS};
+use reference::case::{Call, Case, Outcome, CALLS};
 use reference::edit::{claim, place, release};
 use reference::generate::{
-    any_map, arguments, disc_record, map_a, map_b, objects, play, valid_map, Memory, Rng, Sizes,
+    any_map, arguments, disc_record, map_a, map_b, objects, play, play_copies, valid_map, Memory,
+    Rng, Sizes,
 };
 use reference::geometry::{DiscRecord, Edition, Geometry, LARGEST_MAP};
 use reference::map::{check, zone_check_by_columns, zone_check_by_words};
@@ -215,22 +216,25 @@ fn zone_check_by_words_equals_the_one_by_columns() {
 #[test]
 fn refused_calls_change_nothing_and_every_refusal_is_reached() {
     let mut reached = BTreeMap::new();
+    let mut see = |case: &Case, outcome: &Outcome| {
+        *reached.entry((case.call, outcome.number)).or_insert(0) += 1;
+        if outcome.number != 0 {
+            assert!(outcome.map == case.map);
+            assert!(outcome.list == case.list);
+            assert!(outcome.image == case.image);
+            let zeros = &outcome.values[..case.call.zeros()];
+            assert!(zeros.iter().all(|value| *value == 0));
+            assert!(case.call.refusals().contains(&outcome.number));
+        } else {
+            assert_eq!(outcome.zone, 0);
+        }
+        if !matches!(outcome.number, 3 | 5 | 6 | 7 | 9) {
+            assert_eq!(outcome.zone, 0);
+        }
+    };
     for seed in 0..6_000 {
-        play(seed, &SIZES, &mut |case, outcome| {
-            *reached.entry((case.call, outcome.number)).or_insert(0) += 1;
-            if outcome.number != 0 {
-                assert!(outcome.map == case.map);
-                assert!(outcome.list == case.list);
-                assert!(outcome.image == case.image);
-                assert!(outcome.values.iter().all(|value| *value == 0));
-                assert!(case.call.refusals().contains(&outcome.number));
-            } else {
-                assert_eq!(outcome.zone, 0);
-            }
-            if !matches!(outcome.number, 3 | 5 | 6 | 7 | 9) {
-                assert_eq!(outcome.zone, 0);
-            }
-        });
+        play(seed, &SIZES, &mut see);
+        play_copies(seed, &SIZES, &mut see);
     }
     for call in CALLS {
         assert!(reached.contains_key(&(call, 0)), "{call:?} never accepted");

@@ -13,8 +13,8 @@ use std::process::ExitCode;
 
 use maps::{subjects, Subject};
 use painted::Painted;
-use reference::case::{Case, CALLS};
-use reference::generate::{play, Sizes};
+use reference::case::{Case, Outcome, CALLS};
+use reference::generate::{play, play_copies, Sizes};
 use reference::geometry::LARGEST_MAP;
 
 const HEADER: &str = include_str!("../../../include/shoalswift.h");
@@ -88,9 +88,9 @@ fn measured() -> Vec<Row> {
     };
     for seed in 0..SEEDS {
         let on = format!("seed {seed} of the generator");
-        play(seed, &sizes, &mut |case, _| {
-            measure(&mut stack, &mut rows, &on, case)
-        });
+        let mut visit = |case: &Case, _: &Outcome| measure(&mut stack, &mut rows, &on, case);
+        play(seed, &sizes, &mut visit);
+        play_copies(seed, &sizes, &mut visit);
     }
     rows
 }

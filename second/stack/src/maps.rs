@@ -1,8 +1,8 @@
 //! Calls that have the most to do in a zone: every fragment is as short as it
 //! can be. E+ discs (R-12 of document 02) have longer ids and more zones.
 
-use reference::case::{Call, Case, CALLS};
-use reference::generate::build;
+use reference::case::{Call, Case, CALLS_ON_ONE_MAP};
+use reference::generate::{build, repair_zone_checks};
 use reference::geometry::{DiscRecord, Edition, Geometry};
 use reference::map::Owner;
 
@@ -123,7 +123,8 @@ fn zone(geometry: &Geometry, zone: usize, layout: Layout) -> Vec<(Owner, usize)>
     parts
 }
 
-/// Every call on one map; the place and a claim on what the release leaves.
+/// Every call of document 01 on one map; the place and a claim on what the release
+/// leaves.
 fn calls(geometry: &Geometry, map: &[u8]) -> Vec<Case> {
     let room = vec![0; 2 * geometry.ids()];
     let case = |call, map: &[u8], wide| {
@@ -140,10 +141,10 @@ fn calls(geometry: &Geometry, map: &[u8]) -> Vec<Case> {
         case
     };
 
-    let mut cases: Vec<Case> = CALLS
-        .into_iter()
-        .filter(|call| *call != Call::Place)
-        .map(|call| case(call, map, 1))
+    let mut cases: Vec<Case> = CALLS_ON_ONE_MAP
+        .iter()
+        .filter(|call| **call != Call::Place)
+        .map(|call| case(*call, map, 1))
         .collect();
     // No hole is as long as the disc, so all are looked at.
     cases.push(case(Call::Claim, map, geometry.disc_size));
@@ -155,6 +156,30 @@ fn calls(geometry: &Geometry, map: &[u8]) -> Vec<Case> {
     assert_eq!(place.run().map, map, "and placed again");
     cases.push(place);
     cases.push(case(Call::Claim, &released.map, 1));
+    cases
+}
+
+/// The calls on two copies of a map (R-5 of document 02). The first is chosen; or the
+/// second, as the first lacks its last closing bit and is walked up to there; or none.
+fn calls_on_copies(geometry: &Geometry, map: &[u8]) -> Vec<Case> {
+    let mut open = map.to_vec();
+    open[map.len() - 1] &= 0x7F;
+    repair_zone_checks(&mut open, geometry.sector_size);
+    let pair = |call, one: &[u8], other: &[u8]| {
+        let mut case = Case::new(call, one);
+        case.image = other.to_vec();
+        case
+    };
+    let cases = vec![
+        pair(Call::ChooseCopy, map, map),
+        pair(Call::ChooseCopy, &open, map),
+        pair(Call::ChooseCopy, &open, &open),
+        pair(Call::CopyOver, map, &open),
+        pair(Call::CopyOver, &open, map),
+        Case::new(Call::CopyAddresses, map),
+    ];
+    let numbers: Vec<u32> = cases.iter().map(|case| case.run().number).collect();
+    assert_eq!(numbers, [0, 0, 6, 0, 6, 0], "the closing bit is cleared");
     cases
 }
 
@@ -184,10 +209,12 @@ fn on_map(record: &DiscRecord, (who, layout): (&str, Layout)) -> Vec<Subject> {
         "{edition}blocks of {} bytes, idlen {}, zones: {}; {who}",
         geometry.sector_size, geometry.idlen, geometry.nzones
     );
-    let cases = calls(&geometry, &build(record, &zones)).into_iter();
+    let map = build(record, &zones);
+    let mut cases = calls(&geometry, &map);
+    cases.extend(calls_on_copies(&geometry, &map));
     let subject = |case| Subject {
         on: on.clone(),
         case,
     };
-    cases.map(subject).collect()
+    cases.into_iter().map(subject).collect()
 }

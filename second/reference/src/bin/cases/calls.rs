@@ -1,5 +1,5 @@
 //! The written-out cases: one method for each call, and what is expected of
-//! its answer by document 01. The expectation is this reading's own, so a slip
+//! its answer by documents 01 and 02. The expectation is this reading's own, so a slip
 //! in the library is found when the cases are written.
 
 use reference::case::{Call, Case, Outcome};
@@ -92,6 +92,22 @@ impl Cases {
         case.wide = size;
         self.add(case)
     }
+
+    pub fn choose_copy(&mut self, first: &[u8], second: &[u8]) -> Answer {
+        let mut case = Case::new(Call::ChooseCopy, first);
+        case.image = second.to_vec();
+        self.add(case)
+    }
+
+    pub fn copy_over(&mut self, source: &[u8], target: &[u8]) -> Answer {
+        let mut case = Case::new(Call::CopyOver, source);
+        case.image = target.to_vec();
+        self.add(case)
+    }
+
+    pub fn copy_addresses(&mut self, map: &[u8]) -> Answer {
+        self.add(Case::new(Call::CopyAddresses, map))
+    }
 }
 
 /// A case as the library answered it.
@@ -112,11 +128,12 @@ impl Answer {
     }
 
     /// "A refusal answers its number and zone, any other number 0, and writes
-    /// nothing."
+    /// nothing." Whether two copies are equal is told all the same.
     #[track_caller]
     fn nothing_else(&self) {
         let (case, outcome) = (&self.case, &self.outcome);
-        assert!(outcome.values.iter().all(|value| *value == 0));
+        let zeros = &outcome.values[..case.call.zeros()];
+        assert!(zeros.iter().all(|value| *value == 0));
         assert!(outcome.map == case.map);
         assert!(outcome.list == case.list);
         assert!(outcome.image == case.image);
@@ -150,5 +167,28 @@ impl Answer {
         assert_eq!(self.outcome.values, [pairs.len() as u64 / 2]);
         assert_eq!(&self.outcome.list[..pairs.len()], pairs);
         self.outcome.map
+    }
+
+    /// One of two copies is accepted and handed back, the first as 1 or the second as
+    /// 2, and they are equal or not.
+    #[track_caller]
+    pub fn hands_back(self, which: u64, equal: bool) {
+        self.answers(&[which, equal as u64]);
+    }
+
+    /// Both of two copies are refused, which tells the first's number and zone, and
+    /// they are equal or not.
+    #[track_caller]
+    pub fn neither(self, number: u32, zone: u32, equal: bool) {
+        self.told(number, zone);
+        assert_eq!(self.outcome.values, [0, equal as u64]);
+    }
+
+    /// The target is the source now.
+    #[track_caller]
+    pub fn copied(self) {
+        self.gives(0);
+        assert!(self.outcome.map == self.case.map);
+        assert!(self.outcome.image == self.case.map);
     }
 }

@@ -1,7 +1,7 @@
 //! Writes the stored cases: `cases OUTDIR` makes OUTDIR/stdin (the cases) and
 //! OUTDIR/stdout (a line for each). The set is fixed: written-out cases first,
-//! a module for each part of document 01 and for
-//! of document 02, then some of a fixed range of seeds.
+//! a module for each part of document 01 and for and
+//! R-5 of document 02, then some of a fixed range of seeds.
 //! `cases` alone lists the groups with the lines of OUTDIR/stdout they make.
 
 mod bench;
@@ -9,6 +9,7 @@ mod calls;
 mod check;
 mod claim;
 mod closing;
+mod copies;
 mod editions;
 mod extents;
 mod listing;
@@ -42,9 +43,9 @@ const SIZES: Sizes = Sizes {
 };
 /// All cases together stay below this many bytes, and are at most so many.
 const MOST_BYTES: usize = 5_500_000;
-const MOST_CASES: usize = 1_350;
+const MOST_CASES: usize = 1_420;
 
-const MODULES: [(&str, &[Group]); 16] = [
+const MODULES: [(&str, &[Group]); 17] = [
     ("bench", bench::GROUPS),
     ("record", record::GROUPS),
     ("check", check::GROUPS),
@@ -61,6 +62,7 @@ const MODULES: [(&str, &[Group]); 16] = [
     ("reserved", reserved::GROUPS),
     ("editions", editions::GROUPS),
     ("extents", extents::GROUPS),
+    ("copies", copies::GROUPS),
 ];
 
 /// A group's place among the cases: its module and function, its first case,
