@@ -26,7 +26,7 @@ left n (suc zero) = 1
 left n (suc (suc zero)) = cond (eqb (n % 2) 0) 0 3
 left n (suc (suc (suc i))) = (n + suc i) % 2
 
-one-parity : (n : ℕ) → bitXor 1 (suc n % 2) ≡ n % 2
+pub one-parity : (n : ℕ) → bitXor 1 (suc n % 2) ≡ n % 2
 one-parity n =
     by-test (eqb (n % 2) 0)
     (λ t. let e : n % 2 ≡ 0 = eqb-true (n % 2) 0 t in let f : suc n % 2 ≡ 1 = omega arith in simp (e, f))

@@ -1,26 +1,25 @@
 -- A copy written up to a block's edge: each of its blocks is one of the two maps', so it breaks no rule of a zone and no zone check. Whether
 -- it is accepted is left to the cross checks, and of those to the changes of the blocks that were written.
-use mathlib.Core.Path.{_≡_, refl, sym, ap, _∙_, subst, subst⁻¹}
-use mathlib.Core.Bool.{Bool}
-use mathlib.Core.List.{List, [], _∷_, _++_, map}
+use mathlib.Core.Path.{_≡_, refl, sym, ap, ap₂, _∙_, subst, subst⁻¹}
+use mathlib.Core.Bool.{Bool, true, false}
+use mathlib.Core.List.{List, [], _∷_, map}
 use mathlib.Core.Logic.{_↔_, _⊎_, inl, inr}
-use Prim.Native.Nat.{ℕ, zero, suc, _+_, _-_, _*_, _<_, _≤_}
+use Prim.Native.Nat.{ℕ, zero, suc, _+_, _-_, _*_, _%_, _<_, _≤_}
 use native.Mathlib.Nat.{mul-le-mul-right, min-le-left}
 use native.Mathlib.Omega.{arith}
-use lib.Bits.{bitXor, xor-zero-r, xor-comm}
+use lib.Bits.{bitXor, xor-zero-l, xor-zero-r, xor-comm}
 use lib.Dec.{ltb}
 use lib.ListN.{length, getD, take, drop, length-take, length-map, List·getD-map}
 use lib.Seq.{length-take-le, length-front, take-at, drop-at, drop-drop, getD-take, ext-getD}
 use borrow.Author.Tests.{ltb-true, ltb-false}
 use Rattle.bits.proofs.Tests.{by-test}
 use Rattle.bits.proofs.Xor.{xor-twice}
-use Rattle.checks.specs.Cross.{crossOf, xorSum, changes, xorEach}
-use Rattle.checks.proofs.Changes.{sum-each}
+use Rattle.checks.specs.Cross.{crossOf, xorSum, touchedCount, changesFrom, changes, xorEach}
+use Rattle.checks.proofs.Changes.{sum-each, one-parity, even-number}
 use Rattle.geometry.specs.declared.Geometry.{Geometry}
 use Rattle.geometry.specs.Record.{discRecord, geometryIn, geometryOf}
 use Rattle.geometry.specs.Ranges.{RecordRules}
 use Rattle.geometry.proofs.Numbers.{accepted}
-use Rattle.model.specs.Blocks.{blockAt}
 use Rattle.model.specs.Check.{blocksOf}
 use Rattle.model.specs.Rules.{CheckRule, CrossRule, ZoneRules, zoneBlock, MapRules}
 use Rattle.model.specs.Shown.{zonesOf}
@@ -78,10 +77,10 @@ module _ (old new : List ℕ) (wo : MapRules old) (wn : MapRules new) (same : ge
       let from-edge : (x : List ℕ) → drop d x ≡ drop (d - n) (drop n x) = λ x. ap (λ (i : ℕ). drop i x) (sym e) ∙ sym (drop-drop (d - n) n x) in
       from-edge half ∙ ap (drop (d - n)) (drop-at (take n new) (drop n old) n (length-take-le n new edge)) ∙ sym (from-edge old)
 
-  pub block-before : (y : ℕ) → y < z → zoneBlock g half y ≡ zoneBlock g new y
+  block-before : (y : ℕ) → y < z → zoneBlock g half y ≡ zoneBlock g new y
   block-before y h = before (y * g .sector + g .sector - y * g .sector) (y * g .sector) (omega (arith, zone-end z (g .sector) y h))
 
-  pub block-behind : (y : ℕ) → z ≤ y → zoneBlock g half y ≡ zoneBlock g old y
+  block-behind : (y : ℕ) → z ≤ y → zoneBlock g half y ≡ zoneBlock g old y
   block-behind y h = ap (take (y * g .sector + g .sector - y * g .sector)) (behind (y * g .sector) (mul-le-mul-right (g .sector) h))
 
   -- the record is one of the two
@@ -107,7 +106,7 @@ module _ (old new : List ℕ) (wo : MapRules old) (wn : MapRules new) (same : ge
       (λ t. subst⁻¹ (P y) (block-before y (ltb-true y z t)) (n y h))
       (λ t. subst⁻¹ (P y) (block-behind y (ltb-false y z t)) (o y h))
 
-  pub by-cross : MapRules half ↔ CrossRule (blocksOf g half)
+  by-cross : MapRules half ↔ CrossRule (blocksOf g half)
   by-cross = (
     λ w. subst (λ (x : Geometry). CrossRule (blocksOf x half)) same-disc (w .cross),
     λ c. record {
@@ -188,3 +187,17 @@ module _ (m : List ℕ) (ed : Editable m) (c : Call) (e : Edit) (a : Accepted m 
         λ w. sym (xor-twice x 255) ∙ ap (λ (y : ℕ). bitXor y 255) (xor-comm x 255 ∙ sym sum-half ∙ k .0 w),
         λ n. k .1 (sum-half ∙ ap (bitXor 255) n),
       )
+
+-- an even number of zones touched: each changes by 1
+one-more : (k : ℕ) → bitXor 1 (k % 2) ≡ suc k % 2
+one-more k = let e : k % 2 ≡ suc (suc k) % 2 = omega arith in ap (bitXor 1) e ∙ one-parity (suc k)
+
+even-from : (n i : ℕ) (zs : List Bool) → n % 2 ≡ 0 → touchedCount zs ≤ n → (z : ℕ) → xorSum (take z (changesFrom n i zs)) ≡ touchedCount (take z zs) % 2
+even-from n i zs h l zero = refl
+even-from n i [] h l (suc z) = refl
+even-from n i (true ∷ zs) h l (suc z) =
+    ap₂ bitXor (even-number n i (omega arith) h) (even-from n (suc i) zs h (omega arith) z) ∙ one-more (touchedCount (take z zs))
+even-from n i (false ∷ zs) h l (suc z) = xor-zero-l (xorSum (take z (changesFrom n i zs))) ∙ even-from n i zs h l z
+
+pub even-written : (touched : List Bool) → touchedCount touched % 2 ≡ 0 → (z : ℕ) → xorSum (take z (changes touched)) ≡ touchedCount (take z touched) % 2
+even-written touched h = even-from (touchedCount touched) 0 touched h (omega arith)

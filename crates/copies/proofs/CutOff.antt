@@ -1,16 +1,14 @@
 -- A station that is cut off: while the second copy is written the first is left alone, and while the first is written the second is.
 use mathlib.Core.Path.{_≡_, sym, ap, _∙_, subst⁻¹}
-use mathlib.Core.Bool.{true}
 use mathlib.Core.List.{List}
-use mathlib.Core.Logic.{_⊎_, inl, inr}
-use Prim.Native.Nat.{ℕ, _+_, _-_, _*_, _≤_}
+use mathlib.Core.Logic.{inl, inr}
+use Prim.Native.Nat.{ℕ, _-_, _*_, _≤_}
 use native.Mathlib.Omega.{arith}
 use lib.Dec.{leb}
 use lib.ListN.{length}
 use borrow.Author.Tests.{leb-true, leb-false}
 use Rattle.bits.proofs.Tests.{by-test}
 use Rattle.geometry.specs.declared.Geometry.{Geometry}
-use Rattle.geometry.specs.Record.{geometryOf}
 use Rattle.model.specs.Rules.{MapRules}
 use Rattle.model.specs.Shown.{zonesOf}
 use Rattle.model.proofs.MapJudged.{accepted-keeps-rules}
@@ -18,7 +16,7 @@ use Rattle.edits.specs.Editable.{Editable}
 use Rattle.edits.specs.Judge.{Call}
 use Rattle.edits.specs.Steps.{steps}
 use Rattle.runs.proofs.EveryRun.{run-claims}
-use Rattle.copies.specs.Copies.{handedBack, sameBytes}
+use Rattle.copies.specs.Copies.{handedBack}
 use Rattle.copies.specs.Station.{written, Copies, cutOff, yield, Equal, Yields}
 use Rattle.copies.proofs.Whole.{written-all}
 use Rattle.copies.proofs.SameBytes.{equal-exactly}

@@ -1,12 +1,11 @@
 -- The laws of specs/Laws.
-use mathlib.Core.Path.{refl}
 use Rattle.copies.specs.Laws.{CopyLaws}
 use Rattle.copies.proofs.SameBytes.{equal-exactly}
 use Rattle.copies.proofs.Choice.{choice-by-rules, part-accepted, part-empty, first-left-alone, second-accepted, second-handed-back}
 use Rattle.copies.proofs.Over.{copy-by-table, after-copy}
 use Rattle.copies.proofs.Middle.{addresses-by-table, first-at-object-2, first-on-disc, second-follows}
 use Rattle.copies.proofs.CutOff.{yields, edits-yield}
-use Rattle.copies.proofs.BlockEdge.{half-edit-accepted}
+use Rattle.copies.proofs.BlockEdge.{half-edit-accepted, even-written}
 
 pub copy-laws : CopyLaws
 copy-laws = record {
@@ -25,5 +24,5 @@ copy-laws = record {
   cut-off = yields;
   edits-cut-off = edits-yield;
   at-block-edge = half-edit-accepted;
-  two-of-four = refl;
+  even-written = even-written;
 }

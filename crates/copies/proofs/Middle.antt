@@ -1,7 +1,7 @@
 -- Where the copies lie: the middle zone's first fragment is object 2's, so the first pair that `list` answers for 2 starts with the zone's
 -- first bit, and it ends on the disc.
 use mathlib.Core.Path.{_≡_, refl, sym, ap, _∙_, subst}
-use mathlib.Core.Bool.{Bool, true, false, not, cond, _&&_, _||_, false≢true}
+use mathlib.Core.Bool.{true, false, not, _&&_, _||_, false≢true}
 use mathlib.Core.List.{List, [], _∷_, _++_}
 use mathlib.Core.Logic.{_⊎_, inl, inr}
 use Prim.Native.Nat.{ℕ, suc, _+_, _-_, _*_, _/_, _<_, _≤_}
@@ -21,7 +21,6 @@ use Rattle.model.specs.Check.{every, isOwned, idFits, endFits, firstOwned}
 use Rattle.model.specs.Pieces.{toDisc}
 use Rattle.model.specs.Refusals.{ByTable, Exactly}
 use Rattle.model.specs.Rules.{zoneBlock, MapRules}
-use Rattle.model.specs.Shown.{listedOn}
 use Rattle.model.proofs.LinesJudged.{by-table, table-answered}
 use Rattle.model.proofs.ZoneTests.{zone-tests}
 use Rattle.zone.specs.Lines.{entriesIn}
@@ -56,7 +55,6 @@ first-of-2 g z (x ∷ es) f e t = go (x .holder) t refl
     go : (h : Holder) → isOwned 2 h ≡ true → x .holder ≡ h → StartsWith2 g z (x ∷ es)
     go free t k = absurd (false≢true t)
     go (owned id) t k =
-        let two : id ≡ 2 = eqb-true id 2 t in
         record {
           at = x .at;
           rest = heldBy 2 es;
@@ -80,7 +78,7 @@ module _ {m : List ℕ} {g : Geometry} (a : AcceptedMap m g) where
   abbrev middle : List Entry
   middle = entriesIn g mid (zoneBlock g m mid)
 
-  pub middle-starts : StartsWith2 g mid middle
+  middle-starts : StartsWith2 g mid middle
   middle-starts =
       let e = a .readable .reads mid (omega arith) mid-inside in
       let t = both (every (idFits g) middle && every (endFits g mid) middle) (not (eqb mid (g .zones / 2)) || firstOwned 2 middle)
@@ -89,7 +87,7 @@ module _ {m : List ℕ} {g : Geometry} (a : AcceptedMap m g) where
       (rw (eq-eqb mid (g .zones / 2) refl) at t .1)
 
   -- so it is the first of the object's pieces in object order
-  pub from-middle : (rest : List Pair) × (heldFrom g 2 m mid (g .zones - mid) ++ heldFrom g 2 m 0 mid ≡ toDisc g mid (middle-starts .at) ∷ rest)
+  from-middle : (rest : List Pair) × (heldFrom g 2 m mid (g .zones - mid) ++ heldFrom g 2 m 0 mid ≡ toDisc g mid (middle-starts .at) ∷ rest)
   from-middle =
       let n : g .zones - mid ≡ suc (g .zones - mid - 1) = omega (arith, mid-inside) in
       let later = heldFrom g 2 m (suc mid) (g .zones - mid - 1) in (
@@ -98,10 +96,10 @@ module _ {m : List ℕ} {g : Geometry} (a : AcceptedMap m g) where
             ∙ ap (λ (qs : List Pair). (inDiscBits g mid qs ++ later) ++ heldFrom g 2 m 0 mid) (middle-starts .held),
       )
 
-  pub first-bit : discBit g mid (middle-starts .at .start) ≡ zoneFrom g mid
+  first-bit : discBit g mid (middle-starts .at .start) ≡ zoneFrom g mid
   first-bit = ap (discBit g mid) (middle-starts .starts) ∙ sym (zone-starts g mid)
 
-  pub before-end : zoneFrom g mid * g .unit < g .size
+  before-end : zoneFrom g mid * g .unit < g .size
   before-end =
       let k : zoneFrom g mid < g .end .0 =
       omega (

@@ -1,11 +1,11 @@
 -- What holds of a map's two copies (document 02, R-5). Assumes nothing.
 use mathlib.Core.Path.{_≡_}
-use mathlib.Core.Bool.{true}
+use mathlib.Core.Bool.{Bool, true}
 use mathlib.Core.List.{List, [], _∷_}
 use mathlib.Core.Logic.{_↔_}
-use Prim.Native.Nat.{ℕ, _+_, _*_, _<_, _≤_}
+use Prim.Native.Nat.{ℕ, _+_, _*_, _%_, _<_, _≤_}
 use lib.ListN.{length, take}
-use Rattle.checks.specs.Cross.{xorSum, changes}
+use Rattle.checks.specs.Cross.{xorSum, touchedCount, changes}
 use Rattle.geometry.specs.Record.{geometryOf}
 use Rattle.model.specs.Answer.{Answer, refused, answered}
 use Rattle.model.specs.Chain.{Pair}
@@ -64,5 +64,5 @@ pub record CopyLaws : Type 0 where
   -- and not that one where the changes to the blocks written so far cancel.
   pub at-block-edge : (m : List ℕ) → Editable m → (c : Call) (e : Edit) → Accepted m c e → (z : ℕ) → let g = geometryOf m in z ≤ g .zones
       → MapRules (station.written (z * g .sector) (step m c) m) ↔ xorSum (take z (changes (touchedZones g (pairsIn e)))) ≡ 0
-  -- So it is accepted where an edit touches four zones and the blocks of two of them are written.
-  pub two-of-four : xorSum (take 2 (changes (true ∷ true ∷ true ∷ true ∷ []))) ≡ 0
+  -- After an edit of an even number of zones they cancel where an even number of their blocks is written: two of four, and the copy is accepted.
+  pub even-written : (touched : List Bool) → touchedCount touched % 2 ≡ 0 → (z : ℕ) → xorSum (take z (changes touched)) ≡ touchedCount (take z touched) % 2
