@@ -135,7 +135,7 @@ fn written(bytes: usize, new: &[u8], old: &[u8]) -> Vec<u8> {
 }
 
 /// The station writes the second copy, then the first. What it may count on
-/// wherever it is cut off is what `CopyLaws.cut-off` says.
+/// wherever it is cut off is what `StationLaws.cut-off` says.
 #[test]
 fn a_station_is_cut_off_after_any_byte() {
     let old = fresh_map(&HARD_DISC_256);

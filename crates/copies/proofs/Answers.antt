@@ -1,11 +1,11 @@
 -- The answers of the three calls, case by case: by what the check found, then by the lengths; and what is left of the target.
 use mathlib.Core.Path.{_≡_, refl, sym, ap, ap₂, _∙_}
 use mathlib.Core.Bool.{Bool, true, false, cond}
-use mathlib.Core.List.{List, []}
+use mathlib.Core.List.{List, [], _++_}
 use Prim.Native.Nat.{ℕ}
 use native.Mathlib.Omega.{arith}
 use lib.Dec.{eqb}
-use lib.ListN.{length}
+use lib.ListN.{length, take, drop}
 use borrow.Author.Tests.{eq-eqb, ne-eqb}
 use mir.Val.{boolByte}
 use Rattle.geometry.specs.declared.Geometry.{Geometry}
@@ -29,7 +29,6 @@ use Rattle.copies.specs.declared.Located.the-variants as located
 use Rattle.copies.specs.Copies.{Copy, first, second, orElse, copyFound, partOf, sameBytes, choiceTold, Chooses}
 use Rattle.copies.specs.Copies.{copyJudged, targetAfter, copyAnswer, copyNumbers, copyTold, CopiesOver}
 use Rattle.copies.specs.Copies.{copiesOf, addressesFound, addressesAnswer, addressesNumbers, addressesTold, TellsAddresses}
-use Rattle.copies.specs.Station.{written}
 use Rattle.copies.proofs.Whole.{written-all}
 
 -- a test as a number
@@ -88,7 +87,7 @@ module _ (source target : List ℕ) {c : Checked} (e : c ≡ checked source) whe
         copies-over source target target (copied.Refused r) (refused 1 0) (by-length ∙ rw (ne-eqb (length target) (length source) n))
         (ap copied.Refused er) (ap (λ (x : Refusal). (x .number, x .zone)) er) refl
 
-    pub copy-done : (after : List ℕ) → length target ≡ length source → after ≡ written (length source) source target → CopiesOver source target copied.Done after
+    pub copy-done : (after : List ℕ) → length target ≡ length source → after ≡ take (length source) source ++ drop (length source) target → CopiesOver source target copied.Done after
     copy-done after l ea =
         copies-over source target after copied.Done (answered source) (by-length ∙ rw (eq-eqb (length target) (length source) l)) refl refl
         (ea ∙ written-all (length source) source target (omega arith) (omega arith))

@@ -4,8 +4,6 @@ use Rattle.copies.proofs.SameBytes.{equal-exactly}
 use Rattle.copies.proofs.Choice.{choice-by-rules, part-accepted, part-empty, first-left-alone, second-accepted, second-handed-back}
 use Rattle.copies.proofs.Over.{copy-by-table, after-copy}
 use Rattle.copies.proofs.Middle.{addresses-by-table, first-at-object-2, first-on-disc, second-follows}
-use Rattle.copies.proofs.CutOff.{yields, edits-yield}
-use Rattle.copies.proofs.BlockEdge.{half-edit-accepted, even-written}
 
 pub copy-laws : CopyLaws
 copy-laws = record {
@@ -21,8 +19,4 @@ copy-laws = record {
   first-at-object-2 = first-at-object-2;
   first-on-disc = first-on-disc;
   second-follows = second-follows;
-  cut-off = yields;
-  edits-cut-off = edits-yield;
-  at-block-edge = half-edit-accepted;
-  even-written = even-written;
 }

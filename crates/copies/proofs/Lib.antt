@@ -4,6 +4,4 @@ pub mod Answers
 pub mod Choice
 pub mod Over
 pub mod Middle
-pub mod CutOff
-pub mod BlockEdge
 pub mod Laws

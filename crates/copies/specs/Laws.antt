@@ -1,11 +1,10 @@
 -- What holds of a map's two copies (document 02, R-5). Assumes nothing.
 use mathlib.Core.Path.{_≡_}
-use mathlib.Core.Bool.{Bool, true}
+use mathlib.Core.Bool.{true}
 use mathlib.Core.List.{List, [], _∷_}
 use mathlib.Core.Logic.{_↔_}
-use Prim.Native.Nat.{ℕ, _+_, _*_, _%_, _<_, _≤_}
-use lib.ListN.{length, take}
-use Rattle.checks.specs.Cross.{xorSum, touchedCount, changes}
+use Prim.Native.Nat.{ℕ, _+_, _*_, _<_}
+use lib.ListN.{length}
 use Rattle.geometry.specs.Record.{geometryOf}
 use Rattle.model.specs.Answer.{Answer, refused, answered}
 use Rattle.model.specs.Chain.{Pair}
@@ -13,14 +12,8 @@ use Rattle.model.specs.Refusals.{Refusing, line, ByTable, Exactly}
 use Rattle.model.specs.Rules.{MapRules}
 use Rattle.model.specs.Table.{Judged}
 use Rattle.listing.specs.Listed.{objectFound}
-use Rattle.edits.specs.Editable.{Editable}
-use Rattle.edits.specs.Edits.{Edit, pairsIn, touchedZones}
-use Rattle.edits.specs.Judge.{Call}
-use Rattle.edits.specs.Steps.{step, steps}
-use Rattle.runs.specs.Demand3.{Accepted}
 use Rattle.copies.specs.declared.Addresses.{Addresses}
 use Rattle.copies.specs.Copies.{Copy, first, second, copyFound, handedBack, sameBytes, copyJudged, copiesOf, addressesFound}
-use Rattle.copies.specs.Station as station
 
 -- "the first if it is accepted, else the second, else the first's refusal", in terms of the rules
 pub data ChoiceSays (a b : List ℕ) : Answer Copy → Type 0 where
@@ -54,15 +47,3 @@ pub record CopyLaws : Type 0 where
       → (q : Pair) × (rest : List Pair) × (qs ≡ q ∷ rest) × (l .first ≡ q .start * (geometryOf m) .unit)
   pub first-on-disc : (m : List ℕ) (l : Addresses) → addressesFound m ≡ answered l → l .first < (geometryOf m) .size
   pub second-follows : (m : List ℕ) (l : Addresses) → addressesFound m ≡ answered l → l .second ≡ l .first + length m
-  -- A station that writes the second copy, then the first, and may be cut off after any byte. The second may hold anything beforehand.
-  pub cut-off : (old new other : List ℕ) → MapRules old → MapRules new → length new ≡ length old → length other ≡ length old
-      → (n : ℕ) → station.Yields old new n (station.cutOff n new (record { first = old; second = other }))
-  -- So for every run of edits in memory.
-  pub edits-cut-off : (m other : List ℕ) → Editable m → length other ≡ length m → (cs : List Call)
-      → (n : ℕ) → station.Yields m (steps m cs) n (station.cutOff n (steps m cs) (record { first = m; second = other }))
-  -- Why no more is promised of a half-written first copy. Written up to a block's edge it breaks no rule but perhaps that of the cross checks,
-  -- and not that one where the changes to the blocks written so far cancel.
-  pub at-block-edge : (m : List ℕ) → Editable m → (c : Call) (e : Edit) → Accepted m c e → (z : ℕ) → let g = geometryOf m in z ≤ g .zones
-      → MapRules (station.written (z * g .sector) (step m c) m) ↔ xorSum (take z (changes (touchedZones g (pairsIn e)))) ≡ 0
-  -- After an edit of an even number of zones they cancel where an even number of their blocks is written: two of four, and the copy is accepted.
-  pub even-written : (touched : List Bool) → touchedCount touched % 2 ≡ 0 → (z : ℕ) → xorSum (take z (changes touched)) ≡ touchedCount (take z touched) % 2

@@ -36,7 +36,7 @@ pub record Yields (old new : List ℕ) (n : ℕ) (p : Copies) : Type 0 where
   pub at-end : 2 * length new ≤ n → (yield p ≡ new) × Equal p
   -- in any case an accepted map
   pub accepted : MapRules (yield p)
-  -- No more can be promised: a half-written first copy may be accepted by chance (`CopyLaws.at-block-edge`), and is then neither the old
+  -- No more can be promised: a half-written first copy may be accepted by chance (`StationLaws.at-block-edge`), and is then neither the old
   -- map nor the new one. It is not equal to the second, which is whole. So "not equal" warns of it, and of nothing once all is written;
   -- and copies that are told to be equal yield one of the two maps.
   pub told-equal : Equal p → (yield p ≡ old) ⊎ (yield p ≡ new)

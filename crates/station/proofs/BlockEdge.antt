@@ -35,7 +35,7 @@ use Rattle.edits.proofs.DiscKept.{length-each}
 use Rattle.edits.proofs.ZonesTouched.{each-at}
 use Rattle.runs.specs.Demand3.{Accepted}
 use Rattle.runs.proofs.StepLaws.{reads-after}
-use Rattle.copies.specs.Station.{written}
+use Rattle.station.specs.Station.{written}
 
 -- no element past those taken
 past-taken : (n : ℕ) (l : List ℕ) (i : ℕ) → n ≤ i → getD (take n l) i 0 ≡ 0

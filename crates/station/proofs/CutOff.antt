@@ -16,11 +16,11 @@ use Rattle.edits.specs.Editable.{Editable}
 use Rattle.edits.specs.Judge.{Call}
 use Rattle.edits.specs.Steps.{steps}
 use Rattle.runs.proofs.EveryRun.{run-claims}
 use Rattle.copies.specs.Copies.{handedBack}
-use Rattle.copies.specs.Station.{written, Copies, cutOff, yield, Equal, Yields}
+use Rattle.station.specs.Station.{written, Copies, cutOff, yield, Equal, Yields}
 use Rattle.copies.proofs.Whole.{written-all}
 use Rattle.copies.proofs.SameBytes.{equal-exactly}
 use Rattle.copies.proofs.Choice.{first-left-alone, second-handed-back, second-accepted}
 
 module _ (old new other : List ℕ) (wo : MapRules old) (wn : MapRules new) (same : length new ≡ length old) (long : length other ≡ length old) (n : ℕ) where
   abbrev pair : Copies

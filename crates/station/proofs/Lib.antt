@@ -1,0 +1,2 @@
+pub mod CutOff
+pub mod BlockEdge
