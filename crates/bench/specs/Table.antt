@@ -2,10 +2,11 @@
 use mathlib.Core.Bool.{true, false}
 use mathlib.Core.List.{List, [], _∷_, _++_}
 use Prim.Native.Nat.{ℕ}
-use lib.ListN.{take, drop, replicate}
+use lib.ListN.{replicate}
 use Rattle.geometry.specs.Record.{geometryFrom, geometryOf, floppyDisc, eightZones, driveOf, plusDisc}
 use Rattle.checks.specs.Maps.{withBytes, mapA, mapB, mapD}
 use Rattle.edits.specs.Judge as call
+use Rattle.station.specs.Station.{written}
 use Rattle.bench.specs.Questions.{Question, record-read, check, list, free, address, sweepObject, sweepFree, counted, countedFree}
 use Rattle.bench.specs.Questions.{release, place, claim, choose, copyOver, copyAddresses, after, start, sizes, bitsFor, change, answer}
 
@@ -98,10 +99,6 @@ mapG =
     ∷ (512, 0x08) ∷ (513, 0x30) ∷ (515, 0x01) ∷ (517, 0x58) ∷ (518, 0x80)
     ∷ (768, 0x28) ∷ (769, 0x24) ∷ (771, 0x01) ∷ (772, 0x05) ∷ (773, 0x08) ∷ [])
     mapF
-
--- a copy of one map over which n bytes of another are written
-abbrev written : ℕ → List ℕ → List ℕ → List ℕ
-written n new old = take n new ++ drop n old
 
 abbrev pub table : List Row
 table =

@@ -18,6 +18,7 @@ use Rattle.copies.specs.declared.Addresses.{Addresses}
 use Rattle.copies.specs.declared.Located.{Located}
 use Rattle.copies.specs.declared.Located.the-variants as located
 
+-- one of the two
 pub data Copy : Type 0 where
   first : Copy
   second : Copy

@@ -1,6 +1,7 @@
-// The library for C and Rust: every call of document 01 as an exported function. A slice is a pointer and a length, a reference to a
-// number a pointer. Each answers the refusal number (0: accepted); `zone` is always written, the zone told or 0, and so is every other
-// number lent, 0 where the call is refused. Each has the full contract of the call that it forwards to.
+// The library for C and Rust: every call as an exported function. A slice is a pointer and a length, a reference to a number a pointer.
+// Each answers the refusal number (0: accepted); `zone` is always written, the zone told or 0, and so is every other number lent, 0
+// where the call is refused, but for `equal`, which is told of refused copies too. Each has the full contract of the call that it
+// forwards to.
 use address::Reached;
 use claim::Claimed;
 use copies::Copied;

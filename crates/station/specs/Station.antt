@@ -37,6 +37,6 @@ pub record Yields (old new : List ℕ) (n : ℕ) (p : Copies) : Type 0 where
   -- in any case an accepted map
   pub accepted : MapRules (yield p)
   -- No more can be promised: a half-written first copy may be accepted by chance (`StationLaws.at-block-edge`), and is then neither the old
-  -- map nor the new one. It is not equal to the second, which is whole. So "not equal" warns of it, and of nothing once all is written;
-  -- and copies that are told to be equal yield one of the two maps.
+  -- map nor the new one. It is not equal to the second, which is whole. So "not equal" warns of it: once all is written the copies are
+  -- equal, and copies that are told to be equal yield one of the two maps.
   pub told-equal : Equal p → (yield p ≡ old) ⊎ (yield p ≡ new)
