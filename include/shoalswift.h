@@ -102,9 +102,9 @@ uint32_t shoalswift_claim(uint8_t *map, size_t map_len, uint64_t size, uint32_t 
 
 /* A disc has its map twice. Chooses of two copies the one that is an accepted map: *which is 1 for the first if that is accepted, else 2
  * for the second if that is; else the first's refusal is answered and *which is 0. *equal is 1 where the copies are byte for byte equal
- * and else 0, whether or not they are accepted. 1 to 7. To bring an edited map to a disc, write its second copy first: until that is
- * whole, this chooses the old map; then the new one where the first is refused. A half-written first copy may be accepted by chance; the
- * copies are not equal then. */
+ * and else 0, whether or not they are accepted. 1 to 7. To bring an edited map to a disc, write the second copy first. If that is cut off,
+ * this chooses the new map where the first copy is refused, the old one where the second is, and one of these where they are equal; two
+ * accepted copies that are not equal may yield a map that is neither, as a half-written one may be accepted by chance. */
 uint32_t shoalswift_choose_copy(const uint8_t *first, size_t first_len, const uint8_t *second, size_t second_len, uint32_t *which,
                                 uint32_t *equal, uint32_t *zone);
 

@@ -150,16 +150,18 @@ fn a_station_is_cut_off_after_any_byte() {
         assert_eq!(check(map), Ok(()));
         if n <= length {
             assert!(map == old, "{n}: the old map until the second is whole");
-        } else if check(&first).is_err() {
-            assert!(
-                map == new,
-                "{n}: then the new one where the first is refused"
-            );
-        } else if map != old && map != new {
+        }
+        // What can be told by who does not know n.
+        if check(&first).is_err() {
+            assert!(map == new, "{n}: the first is refused");
+        }
+        if check(&second).is_err() {
+            assert!(map == old, "{n}: the second is refused");
+        }
+        if map != old && map != new {
             assert!(!choice.equal, "{n}: a map that is neither is not equal");
             by_chance.push(n - length);
         }
-        assert!(!choice.equal || map == old || map == new);
         assert!(n < 2 * length || (map == new && choice.equal));
     }
     // With the blocks of two of the four zones written, 1 and 2, the cross

@@ -52,12 +52,21 @@ module _ (old new other : List ℕ) (wo : MapRules old) (wn : MapRules new) (sam
   by-turn : {G : Type 0} → (n ≤ length new → G) → (length new ≤ n → G) → G
   by-turn f s = by-test (leb n (length new)) (λ t. f (leb-true n (length new) t)) (λ t. s (omega (arith, leb-false n (length new) t)))
 
+  -- a copy that is refused is the one under way
+  first-refused : (MapRules (pair .first) → ⊥) → yield pair ≡ new
+  first-refused b =
+      by-turn (λ h. absurd (b (subst⁻¹ MapRules (not-begun h) wo))) (λ h. by-second h ∙ second-handed-back new (pair .first) wn b)
+
+  second-refused : (MapRules (pair .second) → ⊥) → yield pair ≡ old
+  second-refused b = by-turn until-whole (λ h. absurd (b (subst⁻¹ MapRules (second-whole h) wn)))
+
   pub yields : Yields old new n pair
   yields = record {
     until-whole = until-whole;
-    afterwards = λ h b. by-second h ∙ second-handed-back new (pair .first) wn b;
     at-end = at-end;
     accepted = by-turn (λ h. subst⁻¹ MapRules (until-whole h) wo) (λ h. subst⁻¹ MapRules (by-second h) (second-accepted new (pair .first) wn));
+    first-refused = first-refused;
+    second-refused = second-refused;
     told-equal = λ t. by-turn (λ h. inl (until-whole h)) (λ h. inr (equal-new h (equal-exactly (pair .first) (pair .second) .0 t ∙ second-whole h)));
   }
 

@@ -31,12 +31,15 @@ Equal p = sameBytes (p .first) (p .second) ≡ true
 pub record Yields (old new : List ℕ) (n : ℕ) (p : Copies) : Type 0 where
   -- until the second is whole, and as long as the first is not begun: exactly the old map
   pub until-whole : n ≤ length new → yield p ≡ old
-  -- afterwards exactly the new one, whenever the half-written first is refused, and at the end
-  pub afterwards : length new ≤ n → (MapRules (p .first) → ⊥) → yield p ≡ new
+  -- at the end exactly the new one, and the copies are equal
   pub at-end : 2 * length new ≤ n → (yield p ≡ new) × Equal p
   -- in any case an accepted map
   pub accepted : MapRules (yield p)
-  -- No more can be promised: a half-written first copy may be accepted by chance (`StationLaws.at-block-edge`), and is then neither the old
-  -- map nor the new one. It is not equal to the second, which is whole. So "not equal" warns of it: once all is written the copies are
-  -- equal, and copies that are told to be equal yield one of the two maps.
+  -- What can be told of it by who does not know n. The first copy is refused only where the second is whole: afterwards exactly the new map
+  -- whenever the half-written first is refused. The second is refused only where the first is not begun. Equal copies are one of the two
+  -- maps.
+  pub first-refused : (MapRules (p .first) → ⊥) → yield p ≡ new
+  pub second-refused : (MapRules (p .second) → ⊥) → yield p ≡ old
   pub told-equal : Equal p → (yield p ≡ old) ⊎ (yield p ≡ new)
+  -- What is left are copies that are both accepted and not equal. No more can be promised of them: a half-written one may be accepted by chance
+  -- (`StationLaws.at-block-edge`), and is then neither the old map nor the new one. "Not equal" is the warning.
