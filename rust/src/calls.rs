@@ -124,14 +124,17 @@ pub fn place(map: &mut [u8], id: u32, list: &[u32]) -> Result<(), Refusal> {
     answered(|(), zone| unsafe { shoalswift_place(bytes, length, id, pieces, entries, zone) })
 }
 
-/// Gives the first hole that is long enough for `size` bytes to the lowest
-/// unused id. Refused further: 9, 12 (0 bytes), 15.
-pub fn claim(map: &mut [u8], size: u64) -> Result<Claimed, Refusal> {
+/// Gives a hole that is long enough for `size` bytes to an unused id. Zones are
+/// tried from zone `parent` on: that one, the one below it, the one above it, two
+/// below and so on. The id is the lowest unused one whose start zone is the hole's
+/// zone, or if that has none left the lowest unused one. Refused further: 9, 12
+/// (0 bytes, or no such parent zone), 15.
+pub fn claim(map: &mut [u8], size: u64, parent: u32) -> Result<Claimed, Refusal> {
     let (bytes, length) = (map.as_mut_ptr(), map.len());
     // SAFETY: the map is borrowed by this call alone.
     answered(|given: &mut Claimed, zone| unsafe {
         let (id, start, len) = (&mut given.id, &mut given.start, &mut given.length);
-        shoalswift_claim(bytes, length, size, id, start, len, zone)
+        shoalswift_claim(bytes, length, size, parent, id, start, len, zone)
     })
 }
 

@@ -81,6 +81,7 @@ extern "C" {
         map: *mut u8,
         map_len: usize,
         size: u64,
+        parent: u32,
         id: *mut u32,
         start: *mut u32,
         length: *mut u32,

@@ -7,7 +7,7 @@
 //!
 //! ```
 //! let mut map = std::fs::read("../maps/a.map").unwrap();
-//! let claimed = shoalswift::claim(&mut map, 1).unwrap();
+//! let claimed = shoalswift::claim(&mut map, 1, 0).unwrap();
 //! let mut list = [0; 2];
 //! assert_eq!(shoalswift::list(&map, claimed.id, &mut list), Ok(1));
 //! assert_eq!(list, [claimed.start, claimed.length]);

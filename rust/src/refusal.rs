@@ -34,7 +34,7 @@ pub enum Reason {
     Absent = 10,
     /// The object is there already.
     Present = 11,
-    /// The list handed in, or the size, cannot be used.
+    /// The list handed in, the size or the parent zone cannot be used.
     BadRequest = 12,
     /// The room asked for is not free, or too little would be left.
     NotFree = 13,

@@ -60,9 +60,9 @@ fn placed(map: &mut [u8], id: u32, pieces: &[u32]) -> Result<(), (u32, u32)> {
     answer
 }
 
-fn claimed(map: &mut [u8], size: u64) -> Result<(u32, u32, u32), (u32, u32)> {
+fn claimed(map: &mut [u8], size: u64, parent: u32) -> Result<(u32, u32, u32), (u32, u32)> {
     let before = map.to_vec();
-    let answer = told(claim(map, size));
+    let answer = told(claim(map, size, parent));
     assert_eq!(answer.is_err(), map == before, "a refusal changes no byte");
     answer.map(|Claimed { id, start, length }| (id, start, length))
 }
@@ -153,9 +153,11 @@ fn claim_rows() {
     ];
     for (size, answer) in rows {
         let mut map = map_a();
-        assert_eq!(claimed(&mut map, size), answer, "{size} bytes");
+        assert_eq!(claimed(&mut map, size, 0), answer, "{size} bytes");
         assert!(check(&map).is_ok());
+        assert_eq!(claimed(&mut map_a(), size, 1), Err((12, 0)), "one zone");
     }
+    assert_eq!(claimed(&mut map_a(), 1, u32::MAX), Err((12, 0)));
 }
 
 #[test]
@@ -243,7 +245,8 @@ fn touching_holes_are_read_but_not_edited() {
     map[66] = 0x80;
     let mut map = mend_check(map);
     assert_eq!(free_spans(&map, 4), Ok(vec![12, 12, 24, 1512]));
-    assert_eq!(claimed(&mut map, 1), Err((9, 0)));
+    assert_eq!(claimed(&mut map, 1, 0), Err((9, 0)));
+    assert_eq!(claimed(&mut map, 1, 1), Err((9, 0)));
     assert_eq!(placed(&mut map, 5, &[12, 12]), Err((9, 0)));
     assert_eq!(released(&mut map, 5, 2), Err((9, 0)));
 }

@@ -107,8 +107,13 @@ impl Disc {
             assert_eq!(pieces(&self.map, id), pairs_of(&entries));
             self.fill_file(id);
         }
-        for size in [1, 5_000, 100_000] {
-            let claimed = claim(&mut self.map, size).expect("there is room");
+        for (size, parent) in [(1, 0), (5_000, zones / 2), (100_000, zones - 1)] {
+            let claimed = claim(&mut self.map, size, parent).expect("there is room");
+            assert_eq!(
+                claimed.id / per_zone,
+                parent,
+                "the hole is in the parent zone"
+            );
             self.fill_file(claimed.id);
             let last = self.files.last().unwrap();
             assert!(last.contents.len() as u64 >= size);
@@ -412,11 +417,41 @@ fn an_object_goes_round_1000_zones() {
     goes_round(&PLUS_OF_1000_ZONES, &[700, 999, 0, 255, 256]);
 }
 
+/// Claims of which a zone has room for one: the parent zone, then the others by
+/// their distance. Each has the lowest id that starts in its zone, which is 3 in
+/// zone 0. Then there is no hole, and the releases give the fresh map.
+#[test]
+fn claims_go_to_the_zones_by_their_distance() {
+    let shape = HARD_DISC_256;
+    let per_zone = shape.ids_per_zone();
+    let fresh = fresh_map(&shape);
+    for (parent, zones) in [
+        (0, [0, 1, 2, 3, 4]),
+        (1, [1, 0, 2, 3, 4]),
+        (2, [2, 1, 3, 0, 4]),
+        (4, [4, 3, 2, 1, 0]),
+    ] {
+        let mut map = fresh.clone();
+        let size = 1_500 * shape.bytes_per_map_bit() as u64;
+        let given = zones.map(|_| claim(&mut map, size, parent).expect("a zone has room"));
+        assert_eq!(given.map(|new| new.id), zones.map(|z| 3.max(z * per_zone)));
+        let full = claim(&mut map, size, parent).unwrap_err();
+        assert_eq!((full.reason, full.zone), (Reason::NoHole, 0));
+        let no_zone = claim(&mut map, size, 5).unwrap_err();
+        assert_eq!((no_zone.reason, no_zone.zone), (Reason::BadRequest, 0));
+        for new in given {
+            assert_eq!(release(&mut map, new.id, &mut [0; 2]), Ok(1));
+        }
+        assert!(map == fresh);
+    }
+}
+
 #[test]
 fn a_claim_on_e_plus_is_undone_and_has_no_address() {
     let fresh = fresh_map(&PLUS_OF_1000_ZONES);
     let mut map = fresh.clone();
-    let claimed = claim(&mut map, 1_000_000).expect("there is room");
+    let claimed = claim(&mut map, 1_000_000, 700).expect("there is room");
+    assert_eq!(claimed.id, 700 * PLUS_OF_1000_ZONES.ids_per_zone());
     assert_eq!(pieces(&map, claimed.id).len(), 1);
     for n in [0, 0x200, claimed.id << 8, u32::MAX] {
         let refusal = address(&map, n, 0).unwrap_err();

@@ -60,7 +60,7 @@ fn a_piece_longer_than_a_window_is_wiped_whole() {
     let folder = folder("long");
     let (map, image) = (folder.join("map"), folder.join("image"));
     let mut bytes = fs::read("../maps/a.map").unwrap();
-    let claimed = claim(&mut bytes, 1_200_000).unwrap();
+    let claimed = claim(&mut bytes, 1_200_000, 0).unwrap();
     fs::write(&map, &bytes).unwrap();
     fs::write(&image, vec![7; DISC_SIZE]).unwrap();
     assert_eq!(wipe(&map, &image, claimed.id, 1).0, Some(0));

@@ -81,8 +81,9 @@ releasedList m h r new = Releases m (h .0) (h .1) (r .0) (r .1) new
 abbrev pub places : Contract (ℕ × List ℕ) Placed (List ℕ)
 places m h r after = Places m (h .0) (h .1) r after
 
-abbrev pub claims : Contract ℕ Claimed (List ℕ)
-claims m size r after = Claims m size r after
+-- size, parent zone
+abbrev pub claims : Contract (ℕ × ℕ) Claimed (List ℕ)
+claims m h r after = Claims m (h .0) (h .1) r after
 
 -- the second copy is handed in with the first: refusal, zone and which are the answer; then the part handed back and the equality, each with
 -- the other among the answers
@@ -121,7 +122,9 @@ pub record EmptyPrograms : Type 0 where
   pub place : NoEmptyAnswer given.Refused places
   pub place-edits-nothing : Leaves (λ m h. m) places → ⊥
   pub claim : NoEmptyAnswer taken.Refused claims
-  pub claim-edits-nothing : Leaves (λ m size. m) claims → ⊥
+  pub claim-edits-nothing : Leaves (λ m h. m) claims → ⊥
+  -- a claim that does the same whatever the parent zone is
+  pub claim-by-size : ((m : List ℕ) (size : ℕ) → (a : Claimed) × (after : List ℕ) × ((parent : ℕ) → claims m (size, parent) a after)) → ⊥
   -- the two copies: nothing handed back, always the first, always the second; never told equal, always told equal
   pub choose : NoEmptyAnswer (λ r. (r .number, r .zone, 0)) chooses
   pub choose-nothing : Leaves (λ a b. []) handsBack → ⊥

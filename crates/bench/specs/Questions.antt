@@ -37,7 +37,7 @@ pub data Question : Type 0 where
   countedFree : List ℕ → ℕ → ℕ → Question
   release : List ℕ → ℕ → List ℕ → Question
   place : List ℕ → ℕ → List ℕ → Question
-  claim : List ℕ → ℕ → Question
+  claim : List ℕ → ℕ → ℕ → Question
   choose : List ℕ → List ℕ → Question
   copyOver : List ℕ → List ℕ → Question
   copyAddresses : List ℕ → Question
@@ -85,7 +85,7 @@ answer (counted m id first n) = sweepCount first n (objectSweep m id first n)
 answer (countedFree m first n) = sweepCount first n (freeSweep m first n)
 answer (release m id old) = listed old (pairsTaken (outcome m (call.release id (length old))))
 answer (place m id l) = two (placeNumbers (placed.placeAnswer (outcome m (call.place id l))))
-answer (claim m size) = five (claimNumbers (claimed.claimAnswer (outcome m (call.claim size))))
+answer (claim m size parent) = five (claimNumbers (claimed.claimAnswer (outcome m (call.claim size parent))))
 answer (choose a b) = four (choiceTold (copyFound a b) (sameBytes a b)) ++ handedBack a b
 answer (copyOver s t) = two (copyNumbers (copyAnswer (copyJudged s t))) ++ targetAfter t (copyJudged s t)
 answer (copyAddresses m) = four (addressesNumbers (addressesAnswer (addressesFound m)))

@@ -61,9 +61,9 @@ pub record PlaceTells (m : List ℕ) (id : ℕ) (list : List ℕ) (r : Placed) (
   pub refused-told : (n z : ℕ) → outcome m (place id list) ≡ refused n z → (placeNumbers r ≡ (n, z)) × (after ≡ m)
   pub accepted-told : (e : Edit) → outcome m (place id list) ≡ answered e → placeNumbers r ≡ (0, 0)
 
-pub record ClaimTells (m : List ℕ) (size : ℕ) (r : Claimed) (after : List ℕ) : Type 0 where
-  pub refused-told : (n z : ℕ) → outcome m (claim size) ≡ refused n z → (claimNumbers r ≡ (n, z, 0, 0, 0)) × (after ≡ m)
-  pub accepted-told : (id : ℕ) (q : Pair) → outcome m (claim size) ≡ answered (gives id (q ∷ [])) → claimNumbers r ≡ (0, 0, id, q .start, q .len)
+pub record ClaimTells (m : List ℕ) (size parent : ℕ) (r : Claimed) (after : List ℕ) : Type 0 where
+  pub refused-told : (n z : ℕ) → outcome m (claim size parent) ≡ refused n z → (claimNumbers r ≡ (n, z, 0, 0, 0)) × (after ≡ m)
+  pub accepted-told : (id : ℕ) (q : Pair) → outcome m (claim size parent) ≡ answered (gives id (q ∷ [])) → claimNumbers r ≡ (0, 0, id, q .start, q .len)
 
 -- the two copies: refusal, zone, which, equal; "hand back the part that is an accepted map", or "an empty part"
 pub record ChoiceTells (a b : List ℕ) (told : ℕ × ℕ × ℕ × ℕ) (handed : List ℕ) : Type 0 where
@@ -89,7 +89,7 @@ pub record AnswersTold : Type 0 where
       → Sweeps found first fill old r new → SweepTells found first fill old r new
   pub releases : (m : List ℕ) (id : ℕ) (old : List ℕ) (r : Listed) (after new : List ℕ) → Releases m id old r after new → ReleaseTells m id old r after new
   pub places : (m : List ℕ) (id : ℕ) (list : List ℕ) (r : Placed) (after : List ℕ) → Places m id list r after → PlaceTells m id list r after
-  pub claims : (m : List ℕ) (size : ℕ) (r : Claimed) (after : List ℕ) → Claims m size r after → ClaimTells m size r after
+  pub claims : (m : List ℕ) (size parent : ℕ) (r : Claimed) (after : List ℕ) → Claims m size parent r after → ClaimTells m size parent r after
   pub chooses : (a b : List ℕ) (told : ℕ × ℕ × ℕ × ℕ) (handed : List ℕ) → Chooses a b told handed → ChoiceTells a b told handed
   pub copies : (source target : List ℕ) (r : Copied) (after : List ℕ) → CopiesOver source target r after → CopyTells source target r after
   pub locates : (m : List ℕ) (r : Located) → TellsAddresses m r → AddressesTells (addressesFound m) r

@@ -1,23 +1,30 @@
--- The first hole that is long enough, one line at a time: the line's pair, if it is free and long enough, or else that of the lines
--- that remain.
-use mathlib.Core.Path.{_≡_, refl, ap, _∙_}
+-- The first hole that is long enough. In a zone, one line at a time: the line's pair, if it is free and long enough, or else that of the lines
+-- that remain. In the zones by their distance, one distance at a time: that of the zones at this distance, or else of those further away.
+use mathlib.Core.Path.{_≡_, refl, sym, ap, ap₂, _∙_}
 use mathlib.Core.Bool.{Bool, true, false, _&&_, false≢true}
-use mathlib.Core.List.{List, _++_}
+use mathlib.Core.List.{List, _++_, append-nil}
 use mathlib.Core.Option.{Option, none, some}
-use Prim.Native.Nat.{ℕ, _<_, _≤_}
+use Prim.Native.Nat.{ℕ, suc, _+_, _-_, _<_, _≤_}
 use native.Mathlib.Omega.{arith}
-use lib.Dec.{eqb, leb}
+use lib.Dec.{eqb, ltb, leb}
 use Rattle.geometry.specs.declared.Geometry.{Geometry}
 use Rattle.geometry.specs.declared.DiscBit.{DiscBit}
 use Rattle.model.specs.Chain.{Pair}
+use Rattle.model.specs.Pieces.{Piece}
+use Rattle.edits.specs.Near.{zoneIf, zonesAt, zonesFrom}
+use Rattle.edits.specs.Holes.{holesIn, holesOf}
 use Rattle.edits.specs.Judge.{firstHole}
+use Rattle.edits.specs.EditableMap.{EditableMap}
+use Rattle.model.specs.Shown.{piecesOn}
 use Rattle.walk.specs.declared.Walk.{Walk}
 use Rattle.walk.specs.declared.Step.{Step}
-use Rattle.walk.specs.Remaining.{remaining, Advances}
-use Rattle.walk.specs.HeldBy.{pairIf, heldLines}
-use Rattle.walk.proofs.HeldLines.{held-step}
+use Rattle.walk.specs.Remaining.{remaining, Starts, Advances}
+use Rattle.walk.specs.HeldBy.{pairIf, heldLines, heldIn, heldFrom}
+use Rattle.walk.proofs.HeldLines.{held-starts, held-step}
 use Rattle.claim.specs.Hole.{holeOf}
 use Rattle.claim.specs.declared.Hole.the-variants as found
+use Rattle.edits.proofs.Found.{orElse, first-of}
+use Rattle.claim.proofs.HolesFree.{holes-are-free}
 
 -- from the answer to what it tells
 pub no-hole : (o : Option Pair) → holeOf o ≡ found.None → o ≡ none
@@ -54,3 +61,30 @@ module _ (need : ℕ) {m : List ℕ} {g : Geometry} {w : Walk} {r : Step} (a : A
   hole-passed e =
       ap (firstHole need) (held-step 0 a to u k)
       ∙ line-passed need (eqb (r .line .holder) 0) (r .line .start .0) (r .line .len) (heldLines 0 (remaining m g to (r .after))) e
+
+-- a zone's lines
+pub zone-starts : {m : List ℕ} {g : Geometry} {z : ℕ} {w : Walk} → EditableMap m g → z < g .zones → Starts m g z w → heldLines 0 (remaining m g (z + 1) w) ≡ holesIn g (piecesOn g m) z
+zone-starts {m} {g} {z} ed k s =
+    let n : z + 1 - z ≡ 1 = omega arith in
+    held-starts 0 s (z + 1) (omega arith) ∙ ap (heldFrom g 0 m z) n ∙ append-nil (heldIn g 0 m z) ∙ sym (holes-are-free ed z k)
+
+-- of the zones at distance d, the one below first
+pub beside-turn : (g : Geometry) (l : List Piece) (need p d below : ℕ) → below ≡ p - d → (o : Option Pair) → firstHole need (holesOf g l (zoneIf (leb d p) below)) ≡ o
+    → firstHole need (holesOf g l (zonesAt (g .zones) p d)) ≡ orElse o (firstHole need (holesOf g l (zoneIf (ltb 0 d && ltb (p + d) (g .zones)) (p + d))))
+beside-turn g l need p d below eb o e =
+    let above = zoneIf (ltb 0 d && ltb (p + d) (g .zones)) (p + d) in
+    first-of g l need (zoneIf (leb d p) (p - d)) above
+    ∙ ap (λ (x : Option Pair). orElse x (firstHole need (holesOf g l above))) (ap (λ (z : ℕ). firstHole need (holesOf g l (zoneIf (leb d p) z))) (sym eb) ∙ e)
+
+-- of the zones at distance d and further away
+module _ (g : Geometry) (l : List Piece) (need p d : ℕ) (k : d < g .zones) (o : Option Pair) (e : firstHole need (holesOf g l (zonesAt (g .zones) p d)) ≡ o) where
+  pub distance-turn : firstHole need (holesOf g l (zonesFrom (g .zones) p d (g .zones - d))) ≡ orElse o (firstHole need (holesOf g l (zonesFrom (g .zones) p (d + 1) (g .zones - (d + 1)))))
+  distance-turn =
+      let n : g .zones - d ≡ suc (g .zones - (d + 1)) = omega arith in
+      let f : suc d ≡ d + 1 = omega arith in
+      ap (λ (x : ℕ). firstHole need (holesOf g l (zonesFrom (g .zones) p d x))) n
+      ∙ first-of g l need (zonesAt (g .zones) p d) (zonesFrom (g .zones) p (suc d) (g .zones - (d + 1)))
+      ∙ ap₂ (λ (x : Option Pair) (i : ℕ). orElse x (firstHole need (holesOf g l (zonesFrom (g .zones) p i (g .zones - (d + 1)))))) e f
+
+pub none-further : (g : Geometry) (l : List Piece) (need p d : ℕ) → g .zones ≤ d → firstHole need (holesOf g l (zonesFrom (g .zones) p d (g .zones - d))) ≡ none
+none-further g l need p d k = let n : g .zones - d ≡ 0 = omega arith in ap (λ (x : ℕ). firstHole need (holesOf g l (zonesFrom (g .zones) p d x))) n

@@ -1,4 +1,4 @@
--- What a claim answers and what it leaves in the map (document 01, "Claim", refusals 9, 12, 14, 15). Assumes nothing.
+-- What a claim answers and what it leaves in the map (document 01, "Claim", refusals 9, 12, 14, 15; document 02, R-6). Assumes nothing.
 use mathlib.Core.Path.{_≡_}
 use mathlib.Core.List.{List, [], _∷_}
 use Prim.Native.Nat.{ℕ}
@@ -40,7 +40,7 @@ claimTold (refused n z) = (n, z, 0, 0, 0)
 claimTold (answered e) = (0, 0, editId e, firstPair (pairsIn e) .start, firstPair (pairsIn e) .len)
 
 -- the answer with its numbers, and every byte of the map
-pub record Claims (m : List ℕ) (size : ℕ) (r : Claimed) (after : List ℕ) : Type 0 where
-  pub answer : r ≡ claimAnswer (outcome m (call.claim size))
-  pub numbers : claimNumbers r ≡ claimTold (outcome m (call.claim size))
-  pub bytes : after ≡ step m (call.claim size)
+pub record Claims (m : List ℕ) (size parent : ℕ) (r : Claimed) (after : List ℕ) : Type 0 where
+  pub answer : r ≡ claimAnswer (outcome m (call.claim size parent))
+  pub numbers : claimNumbers r ≡ claimTold (outcome m (call.claim size parent))
+  pub bytes : after ≡ step m (call.claim size parent)

@@ -1,5 +1,5 @@
--- The unused ids of a window, `from` to `to` - 1, by a bit for each, the first for id `from` (document 01, "Claim": "The id is the lowest unused
--- one from 3"). Assumes nothing.
+-- The unused ids of a window, `from` to `to` - 1, by a bit for each, the first for id `from`, and the id for a zone (document 02, R-6: "the lowest
+-- unused one from 3 whose start zone is the chosen zone"). Assumes nothing.
 use mathlib.Core.Path.{_≡_}
 use mathlib.Core.Bool.{Bool, false, cond, _&&_}
 use mathlib.Core.List.{List}
@@ -11,7 +11,7 @@ use Rattle.bits.specs.Bits.{byteBits}
 use Rattle.geometry.specs.declared.Geometry.{Geometry}
 use Rattle.model.specs.Chain.{Pair}
 use Rattle.model.specs.Pieces.{Piece}
-use Rattle.edits.specs.Judge.{isEmpty, lowest}
+use Rattle.edits.specs.Judge.{isEmpty, lowest, lowestId, unused, unusedOf, orAny}
 
 -- the bits after the one of this id was cleared, if it has one
 abbrev pub clearedBit : ℕ → ℕ → ℕ → List Bool → List Bool
@@ -33,4 +33,10 @@ pub record Window (g : Geometry) (from to : ℕ) : Type 0 where
 pub record UnusedIn (l : List Piece) (from to r : ℕ) : Type 0 where
   pub low : from ≤ r
   pub high : r ≤ to
-  pub least : lowest l (to - from) from ≡ cond (ltb r to) (some r) none
+  pub least : lowest (unused l) (to - from) from ≡ cond (ltb r to) (some r) none
+
+-- r is the id for a piece in zone z
+pub record IdChosen (g : Geometry) (l : List Piece) (z r : ℕ) : Type 0 where
+  pub any : ℕ
+  pub any-lowest : lowestId g (unused l) ≡ some any
+  pub chosen : orAny any (lowestId g (unusedOf g l z)) ≡ r

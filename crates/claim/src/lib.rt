@@ -1,6 +1,8 @@
-// Claim (document 01): given a size in bytes, gives the lowest unused id the first hole that is long enough. What is chosen (`choose`) is apart
-// from how it is given (`give_piece`). One pass over the map looks for the hole, and one, or a few where ids are many, for the id.
+// Claim (document 01, and document 02's R-6): given a size in bytes and a parent zone, gives an unused id of the hole's zone the first hole
+// that is long enough, by its zone's distance from the parent. What is chosen (`choose`) is apart from how it is given (`give_piece`). One pass over
+// the map looks for the hole, one for an id of its zone, and if there is none left one more, or at most four where ids are many.
 use bits::both;
+use bits::minus;
 use geometry::DiscBit;
 use geometry::Geometry;
 use geometry::Refusal;
@@ -8,10 +10,9 @@ use geometry::refuse;
 use map::Checked;
 use walk::Touching;
 ghost use mathlib.Core.Path.{_≡_};
-ghost use mathlib.Core.Bool.{cond};
+ghost use mathlib.Core.Bool.{true, cond};
 ghost use mathlib.Core.List.{[], _∷_};
-ghost use mathlib.Core.Option.{some};
-ghost use Prim.Native.Nat.{_+_, _-_, _*_, _<_, _≤_, max, min};
+ghost use Prim.Native.Nat.{_+_, _*_, _<_, _≤_, max, min};
 ghost use lib.Dec.{ltb};
 ghost use lib.ListN.{length};
 ghost use Rattle.bits.specs.Bits.{byteBits};
@@ -19,13 +20,15 @@ ghost use Rattle.geometry.specs.Accepted.{AcceptedGeometry};
 ghost use Rattle.model.specs.Shown.{piecesOn};
 ghost use Rattle.map.specs.Accepted.{ReadableFrom, AcceptedMap};
 ghost use Rattle.walk.specs.HeldBy.{heldFrom};
-ghost use Rattle.edits.specs.Judge.{need, firstHole, lowest, chosen, place};
+ghost use Rattle.edits.specs.Near.{zoneIf, zonesAt};
+ghost use Rattle.edits.specs.Holes.{holesIn, holesOf};
+ghost use Rattle.edits.specs.Judge.{need, firstHole, holesNear, chosen, place};
 ghost use Rattle.edits.specs.Steps.{step};
 ghost use Rattle.edits.specs.EditableMap.{EditableMap};
 ghost use Rattle.claim.specs.Claimed.{choiceAnswer, Claims};
 ghost use Rattle.claim.specs.Given.{PieceFits};
 ghost use Rattle.claim.specs.Hole.{holeOf};
-ghost use Rattle.claim.specs.Unused.{clearedBit, ClearedIn, Window, UnusedIn};
+ghost use Rattle.claim.specs.Unused.{clearedBit, ClearedIn, Window, UnusedIn, IdChosen};
 
 // The id and the piece that it was given, or a refusal.
 pub enum Claimed {
@@ -33,39 +36,40 @@ pub enum Claimed {
     Refused(Refusal),
 }
 
-// Claims room for `size` bytes. Refused: 1 to 7 as `map::check`, 9, 12 (0 bytes), 15; 14 cannot arise. A refusal changes no byte
-// of the map.
-pub fn claim(map: &mut [u8], size: u64) -> Claimed
-    ensures { λ r. ⌜ Claims (now (map .entry)) size r (now (map .exit)) ⌝ }
+// Claims room for `size` bytes near the zone `parent`. Refused: 1 to 7 as `map::check`, 9, 12 (0 bytes, or no such zone), 15; 14 cannot
+// arise. A refusal changes no byte of the map.
+pub fn claim(map: &mut [u8], size: u64, parent: u32) -> Claimed
+    ensures { λ r. ⌜ Claims (now (map .entry)) size parent r (now (map .exit)) ⌝ }
 {
     match map::check(map) {
         Checked::Refused(r) => Claimed::Refused(r),
-        Checked::Accepted(g) => claim_checked(map, g, size),
+        Checked::Accepted(g) => claim_checked(map, g, size, parent),
     }
 }
 
 // On an accepted map: 9, 12, and then what a map gives that edits work on.
-fn claim_checked(map: &mut [u8], g: Geometry, size: u64) -> Claimed
+fn claim_checked(map: &mut [u8], g: Geometry, size: u64, parent: u32) -> Claimed
     requires { ⌜ AcceptedMap (now map) g ⌝ }
-    ensures { λ r. ⌜ Claims (now (map .entry)) size r (now (map .exit)) ⌝ }
+    ensures { λ r. ⌜ Claims (now (map .entry)) size parent r (now (map .exit)) ⌝ }
 {
+    let parent = parent as usize;
     match walk::first_touching(map, g) {
         Touching::Zone(zone) => Claimed::Refused(Refusal { number: 9, zone }),
         Touching::None => {
-            if size == 0 {
+            if !both(0 < size, parent < g.zones) {
                 return Claimed::Refused(refuse(12));
             }
-            claim_room(map, g, size)
+            claim_room(map, g, size, parent)
         }
     }
 }
 
-// Gives what is chosen for a claim of some bytes.
-fn claim_room(map: &mut [u8], g: Geometry, size: u64) -> Claimed
-    requires { ⌜ EditableMap (now map) g × (0 < size) ⌝ }
-    ensures { λ r. ⌜ Claims (now (map .entry)) size r (now (map .exit)) ⌝ }
+// Gives what is chosen for a claim of some bytes near a zone of the disc.
+fn claim_room(map: &mut [u8], g: Geometry, size: u64, parent: usize) -> Claimed
+    requires { ⌜ EditableMap (now map) g × (0 < size) × (parent < g .zones) ⌝ }
+    ensures { λ r. ⌜ Claims (now (map .entry)) size parent r (now (map .exit)) ⌝ }
 {
-    match choose(map, g, size) {
+    match choose(map, g, size, parent) {
         Claimed::Refused(r) => Claimed::Refused(r),
         Claimed::Piece { id, start, len } => {
             give_piece(map, g, id, start, len);
@@ -74,17 +78,17 @@ fn claim_room(map: &mut [u8], g: Geometry, size: u64) -> Claimed
     }
 }
 
-// What a claim chooses: the lowest unused id, with what is taken of the first hole that is long enough, or 15. An unused id is always
-// there, so nothing is refused with 14.
-fn choose(map: &[u8], g: Geometry, size: u64) -> Claimed
-    requires { ⌜ EditableMap (now map) g ⌝ }
-    ensures { λ r. ⌜ r ≡ choiceAnswer (chosen g (piecesOn g (now (map .entry))) size) ⌝ }
+// What a claim chooses: what is taken of the nearest hole that is long enough, with an id for its zone, or 15. An unused id is always there, so
+// nothing is refused with 14.
+fn choose(map: &[u8], g: Geometry, size: u64, parent: usize) -> Claimed
+    requires { ⌜ EditableMap (now map) g × (parent < g .zones) ⌝ }
+    ensures { λ r. ⌜ r ≡ choiceAnswer (chosen g (piecesOn g (now (map .entry))) size parent) ⌝ }
 {
     let bits = need_of(g, size);
-    match first_hole(map, g, bits) {
+    match nearest_hole(map, g, parent, bits) {
         Hole::None => Claimed::Refused(refuse(15)),
         Hole::At(start, hole) => {
-            let id = lowest_unused(map, g);
+            let id = id_for(map, g, g.zone_of(start));
             let len = taken_of(g, bits, hole);
             Claimed::Piece { id, start, len }
         }
@@ -123,14 +127,56 @@ enum Hole {
     At(DiscBit, u32),
 }
 
-// The first hole of at least `need` bits, zones from 0, holes ascending.
-fn first_hole(map: &[u8], g: Geometry, need: usize) -> Hole
-    requires { ⌜ AcceptedMap (now map) g ⌝ }
-    ensures { λ r. ⌜ r ≡ holeOf (firstHole need (heldFrom g 0 (now (map .entry)) 0 (g .zones))) ⌝ }
+// The first hole of at least `need` bits, in the zones by their distance from the parent zone.
+fn nearest_hole(map: &[u8], g: Geometry, parent: usize, need: usize) -> Hole
+    requires { ⌜ EditableMap (now map) g × (parent < g .zones) ⌝ }
+    ensures { λ r. ⌜ r ≡ holeOf (firstHole need (holesNear g (piecesOn g (now (map .entry))) parent)) ⌝ }
 {
     let zones = g.zones;
-    let mut w = walk::from_zone(map, g, 0);
-    while w.zone < zones {
+    let mut d = 0;
+    while d < zones {
+        match hole_at(map, g, parent, d, need) {
+            Hole::At(start, len) => {
+                return Hole::At(start, len);
+            }
+            Hole::None => {
+                d += 1;
+            }
+        }
+    }
+    Hole::None
+}
+
+// The first one at distance d from the parent zone: of the zone below, then of the one above, where these are zones of the disc.
+fn hole_at(map: &[u8], g: Geometry, parent: usize, d: usize, need: usize) -> Hole
+    requires { ⌜ EditableMap (now map) g × (parent < g .zones) × (d < g .zones) ⌝ }
+    ensures { λ r. ⌜ r ≡ holeOf (firstHole need (holesOf g (piecesOn g (now (map .entry))) (zonesAt (g .zones) parent d))) ⌝ }
+{
+    let above = parent + d;
+    match hole_if(map, g, d <= parent, minus(parent, d), need) {
+        Hole::At(start, len) => Hole::At(start, len),
+        Hole::None => hole_if(map, g, both(0 < d, above < g.zones), above, need),
+    }
+}
+
+// The first one of zone z, if that is a zone to look at.
+fn hole_if(map: &[u8], g: Geometry, there: bool, z: usize, need: usize) -> Hole
+    requires { ⌜ EditableMap (now map) g × (there ≡ true → z < g .zones) ⌝ }
+    ensures { λ r. ⌜ r ≡ holeOf (firstHole need (holesOf g (piecesOn g (now (map .entry))) (zoneIf there z))) ⌝ }
+{
+    if there {
+        return first_hole(map, g, z, need);
+    }
+    Hole::None
+}
+
+// The first one of zone z.
+fn first_hole(map: &[u8], g: Geometry, z: usize, need: usize) -> Hole
+    requires { ⌜ EditableMap (now map) g × (z < g .zones) ⌝ }
+    ensures { λ r. ⌜ r ≡ holeOf (firstHole need (holesIn g (piecesOn g (now (map .entry))) z)) ⌝ }
+{
+    let mut w = walk::from_zone(map, g, z);
+    while w.zone <= z {
         let s = walk::next(map, g, w);
         let line = s.line;
         let start = line.start;
@@ -156,20 +202,24 @@ fn taken_of(g: Geometry, need: usize, hole: u32) -> u32
 // How many ids have their bits at a time: all ids of a disc at once would need more stack than a call may take.
 const WINDOW: usize = 131072;
 
-// The lowest unused id from 3 on, one window of ids after the other: only a disc with more ids than a window can need a second.
-fn lowest_unused(map: &[u8], g: Geometry) -> u32
-    requires { ⌜ EditableMap (now map) g ⌝ }
-    ensures { λ r. ⌜ lowest (piecesOn g (now (map .entry))) (g .ids * g .zones - 3) 3 ≡ some r ⌝ }
+// The id for a piece in zone z: the lowest unused one from 3 whose start zone that is, or where none is left the lowest of all. The ids of a zone are
+// one window; the others follow one window after the other, and only a disc with more ids than a window can need a second of these.
+fn id_for(map: &[u8], g: Geometry, z: usize) -> u32
+    requires { ⌜ EditableMap (now map) g × (z < g .zones) ⌝ }
+    ensures { λ r. ⌜ IdChosen g (piecesOn g (now (map .entry))) z r ⌝ }
 {
     let ids = g.ids * g.zones;
-    let mut from = 3;
+    let mut from = larger(3, z * g.ids);
+    let mut to = (z + 1) * g.ids;
+    let mut next = 3;
     loop {
-        let to = smaller(from + WINDOW, ids);
         let id = unused_in(map, g, from, to);
         if id < to {
             return id as u32;
         }
-        from = to;
+        from = next;
+        to = smaller(next + WINDOW, ids);
+        next = to;
     }
 }
 

@@ -8,7 +8,7 @@ use mathlib.Core.Logic.{_⊎_, inl, inr}
 use Prim.Native.Nat.{ℕ, zero, suc, _+_, _-_, _*_, _<_, _≤_}
 use native.Mathlib.Omega.{arith}
 use lib.Dec.{eqb, ltb, leb}
-use borrow.Author.Tests.{eqb-true, lt-ltb, le-ltb, ltb-false, leb-true, le-leb}
+use borrow.Author.Tests.{eqb-true, eqb-false, lt-ltb, le-ltb, ltb-false, leb-true, le-leb}
 use Rattle.bits.proofs.Tests.{by-test, both, and-true}
 use Rattle.geometry.specs.declared.Geometry.{Geometry}
 use Rattle.geometry.specs.Accepted.{AcceptedGeometry}
@@ -17,14 +17,15 @@ use Rattle.model.specs.Chain.{Pair}
 use Rattle.model.specs.Pieces.{Piece}
 use Rattle.model.proofs.Options.{none-some, some-some}
 use Rattle.edits.specs.Edits.{insert, own, give, inZone}
-use Rattle.edits.specs.Holes.{holes, holesFrom, gapFits, apart}
+use Rattle.edits.specs.Holes.{holes, holesIn, holesFrom, gapFits, apart}
 use Rattle.edits.specs.Judge.{firstHole, taken}
 use Rattle.edits.specs.Room.{In}
 use Rattle.edits.proofs.Kept.{All, all-keep, all-insert}
-use Rattle.edits.proofs.Entries.{in-append}
+use Rattle.edits.proofs.Entries.{in-append, in-left, in-right}
 use Rattle.edits.proofs.ByPlace.{weak-insert, keep-insert-no}
 use Rattle.edits.proofs.PutIn.{keep-insert}
 use Rattle.edits.proofs.Gaps.{Gap, gap-of-test, test-of-gap, gap-le, gap-shift, isLong, apart-le}
+use Rattle.edits.proofs.HolesLeft.{apart-holes}
 use Rattle.edits.proofs.Invariant.{FitPieces, some-bits, fit-asc, in-zone}
 
 -- the first hole is a hole, and long enough
@@ -37,15 +38,22 @@ first-in n (x ∷ xs) h e =
 
 -- a hole is one of its zone's
 abbrev pub InSomeZone : Geometry → ℕ → ℕ → List Piece → Pair → Type 0
-InSomeZone g z n l h = (i : ℕ) × (z ≤ i) × (i < z + n) × In h (holes (zoneFrom g i) (zoneEnd g i) (inZone g i l))
+InSomeZone g z n l h = (i : ℕ) × (z ≤ i) × (i < z + n) × In h (holesIn g l i)
 
 pub in-holes : (g : Geometry) (z n : ℕ) (l : List Piece) (h : Pair) → In h (holesFrom g z n l) → InSomeZone g z n l h
 in-holes g z zero l h i = absurd i
-in-holes g z (suc n) l h i = go (in-append h (holes (zoneFrom g z) (zoneEnd g z) (inZone g z l)) (holesFrom g (suc z) n l) i) (in-holes g (suc z) n l h)
+in-holes g z (suc n) l h i = go (in-append h (holesIn g l z) (holesFrom g (suc z) n l) i) (in-holes g (suc z) n l h)
   where
-    go : In h (holes (zoneFrom g z) (zoneEnd g z) (inZone g z l)) ⊎ In h (holesFrom g (suc z) n l) → (In h (holesFrom g (suc z) n l) → InSomeZone g (suc z) n l h) → InSomeZone g z (suc n) l h
+    go : In h (holesIn g l z) ⊎ In h (holesFrom g (suc z) n l) → (In h (holesFrom g (suc z) n l) → InSomeZone g (suc z) n l h) → InSomeZone g z (suc n) l h
     go (inl j) ih = (z, omega arith, omega arith, j)
     go (inr j) ih = let r = ih j in (r .0, omega arith, omega arith, r .3)
+
+pub holes-in : (g : Geometry) (z n : ℕ) (l : List Piece) (i : ℕ) → z ≤ i → i < z + n → (h : Pair) → In h (holesIn g l i) → In h (holesFrom g z n l)
+holes-in g z zero l i lo hi h k = absurd (omega arith)
+holes-in g z (suc n) l i lo hi h k =
+    by-test (eqb i z)
+    (λ t. in-left h (holesIn g l z) (holesFrom g (suc z) n l) (subst (λ (j : ℕ). In h (holesIn g l j)) (eqb-true i z t) k))
+    (λ t. in-right h (holesIn g l z) (holesFrom g (suc z) n l) (holes-in g (suc z) n l i (omega (arith, eqb-false i z t)) (omega arith) h k))
 
 -- a hole of a zone's pieces, some or all of it taken
 abbrev pub HoleTaken : ℕ → ℕ → ℕ → List Piece → Pair → Piece → Type 0
@@ -105,38 +113,35 @@ taken-len m n h k j =
     (λ t. simp t (inl refl, omega arith))
     (λ t. simp t (inr (ltb-false (h .len) (n + m) t), k))
 
--- an object claimed
-pub fit-claim : (g : Geometry) (id n : ℕ) (l : List Piece) (h : Pair) → AcceptedGeometry g → FitPieces g l → ltb id (g .ids * g .zones) ≡ true → g .shortest ≤ n
-    → firstHole n (holesFrom g 0 (g .zones) l) ≡ some h → FitPieces g (give id (taken (g .shortest) n h ∷ []) l)
-fit-claim g id n l h f k o big e = record {
-  weak = weak-insert 0 q l (omega arith) (k .weak);
-  long = all-insert (isLong m) q l (le-leb m ((taken m n h) .len) (size .1)) (k .long);
-  zoned = all-insert _ q l (lt-ltb (zoneOf g (h .start)) (g .zones) (omega (arith, zone, spot .2))) (k .zoned);
-  named = all-insert _ q l o (k .named);
-  parts = λ z i. by-test (eqb (zoneOf g (h .start)) z)
-      (λ t. rw (keep-insert (λ p. eqb (zoneOf g (p .at .start)) z) 0 q l (fit-asc g l f k) t)
-      (subst (λ (x : ℕ). apart m (zoneFrom g x) (zoneEnd g x) (insert q (inZone g x l)) ≡ true) (sym zone ∙ eqb-true _ _ t) (got .0)))
-      (λ t. rw (keep-insert-no (λ p. eqb (zoneOf g (p .at .start)) z) q l t) (k .parts z i));
-}
-  where
-    m : ℕ
-    m = g .shortest
+-- a hole of a zone lies in it, and an object may be given what is taken of one that is long enough
+module _ (g : Geometry) (l : List Piece) (f : AcceptedGeometry g) (k : FitPieces g l) (z : ℕ) (i : z < g .zones) (h : Pair) (j : In h (holesIn g l z)) where
+  hole-cut : (q : Piece) → q .at .start ≡ h .start → Gap (g .shortest) (q .at .len) (h .len) → HoleTaken (g .shortest) (zoneFrom g z) (zoneEnd g z) (inZone g z l) h q
+  hole-cut q s c =
+      take-hole (g .shortest) (zoneFrom g z) (zoneEnd g z) (inZone g z l) h q (some-bits g f) (all-keep _ _ l (k .long)) (k .parts z i) j s c
+      (omega (arith, some-bits g f, apart-holes (g .shortest) (zoneFrom g z) (zoneEnd g z) (inZone g z l) (k .parts z i) h j))
 
-    q : Piece
-    q = own id (taken (g .shortest) n h)
+  pub hole-zone : zoneOf g (h .start) ≡ z
+  hole-zone =
+      let c = hole-cut (own 0 h) refl (inl refl) in
+      in-zone g z (h .start) (c .1) (omega (arith, c .2, some-bits g f, apart-holes (g .shortest) (zoneFrom g z) (zoneEnd g z) (inZone g z l) (k .parts z i) h j))
 
-    found : In h (holesFrom g 0 (g .zones) l) × (n ≤ h .len)
-    found = first-in n (holesFrom g 0 (g .zones) l) h e
+  pub fit-claim : (id n : ℕ) → ltb id (g .ids * g .zones) ≡ true → g .shortest ≤ n → n ≤ h .len → FitPieces g (give id (taken (g .shortest) n h ∷ []) l)
+  fit-claim id n o big enough = record {
+    weak = weak-insert 0 q l (omega arith) (k .weak);
+    long = all-insert (isLong m) q l (le-leb m ((taken m n h) .len) (size .1)) (k .long);
+    zoned = all-insert _ q l (lt-ltb (zoneOf g (h .start)) (g .zones) (omega (arith, hole-zone))) (k .zoned);
+    named = all-insert _ q l o (k .named);
+    parts = λ y b. by-test (eqb (zoneOf g (h .start)) y)
+        (λ t. rw (keep-insert (λ p. eqb (zoneOf g (p .at .start)) y) 0 q l (fit-asc g l f k) t)
+        (subst (λ (x : ℕ). apart m (zoneFrom g x) (zoneEnd g x) (insert q (inZone g x l)) ≡ true) (sym hole-zone ∙ eqb-true _ _ t) (hole-cut q refl (size .0) .0)))
+        (λ t. rw (keep-insert-no (λ p. eqb (zoneOf g (p .at .start)) y) q l t) (k .parts y b));
+  }
+    where
+      m : ℕ
+      m = g .shortest
 
-    spot : InSomeZone g 0 (g .zones) l h
-    spot = in-holes g 0 (g .zones) l h (found .0)
+      q : Piece
+      q = own id (taken (g .shortest) n h)
 
-    size : Gap (g .shortest) ((taken (g .shortest) n h) .len) (h .len) × (g .shortest ≤ (taken (g .shortest) n h) .len)
-    size = taken-len (g .shortest) n h big (found .1)
-
-    got : HoleTaken (g .shortest) (zoneFrom g (spot .0)) (zoneEnd g (spot .0)) (inZone g (spot .0) l) h (own id (taken (g .shortest) n h))
-    got = take-hole (g .shortest) (zoneFrom g (spot .0)) (zoneEnd g (spot .0)) (inZone g (spot .0) l) h (own id (taken (g .shortest) n h)) (some-bits g f)
-        (all-keep _ _ l (k .long)) (k .parts (spot .0) (omega (arith, spot .2))) (spot .3) refl (size .0) (omega (arith, found .1, some-bits g f))
-
-    zone : zoneOf g (h .start) ≡ spot .0
-    zone = in-zone g (spot .0) (h .start) (got .1) (omega (arith, got .2, found .1, some-bits g f))
+      size : Gap (g .shortest) ((taken (g .shortest) n h) .len) (h .len) × (g .shortest ≤ (taken (g .shortest) n h) .len)
+      size = taken-len (g .shortest) n h big enough

@@ -18,12 +18,11 @@ use Rattle.model.specs.Chain.{Pair}
 use Rattle.model.specs.Pieces.{Piece, late}
 use Rattle.edits.specs.Order.{rank}
 use Rattle.edits.specs.Edits.{own, inZone}
-use Rattle.edits.specs.Holes.{hole, holes, holesFrom}
+use Rattle.edits.specs.Holes.{hole, holes}
 use Rattle.edits.specs.Judge.{pairFits, pairsFit, need, taken, choice, chosen}
 use Rattle.edits.proofs.Kept.{All, all-keep}
 use Rattle.edits.specs.Room.{In}
-use Rattle.edits.proofs.ClaimFits.{first-in, in-holes}
-use Rattle.edits.proofs.Chosen.{chosen-parts}
+use Rattle.edits.proofs.Chosen.{choice-parts, chosen-hole}
 use Rattle.edits.proofs.Returned.{isWhole}
 use Rattle.edits.proofs.Clusters.{add-whole, sub-whole, start-whole, len-whole, is-whole, from-whole, to-whole}
 
@@ -63,15 +62,15 @@ max-whole k a b h j =
     (λ t. let e : max a b ≡ a = omega (arith, leb-false) in ap (λ (x : ℕ). x % k) e ∙ h)
 
 -- a claim
-pub chosen-whole : (g : Geometry) (l : List Piece) (size id : ℕ) (qs : List Pair) → AcceptedGeometry g → All (isWhole (g .cluster)) l → chosen g l size ≡ answered (choice id qs) → All (isWhole (g .cluster)) (map (own id) qs)
-chosen-whole g l size id qs ok w e =
+pub chosen-whole : (g : Geometry) (l : List Piece) (size parent id : ℕ) (qs : List Pair) → AcceptedGeometry g → All (isWhole (g .cluster)) l → chosen g l size parent ≡ answered (choice id qs) → All (isWhole (g .cluster)) (map (own id) qs)
+chosen-whole g l size parent id qs ok w e =
     let k = g .cluster in
-    let p = chosen-parts g l size id qs e in
-    let h = p .0 in
+    let p = choice-parts g l size parent id qs e in
+    let c = chosen-hole g l size parent id qs e in
+    let h = p .hole in
     let q = taken (g .shortest) (need g size) h in
-    let f = first-in (need g size) (holesFrom g 0 (g .zones) l) h (p .2) in
-    let z = in-holes g 0 (g .zones) l h (f .0) in
-    let a = holes-whole k (zoneFrom g (z .0)) (zoneEnd g (z .0)) (inZone g (z .0) l) h (from-whole g ok (z .0)) (to-whole g ok (z .0)) (all-keep (isWhole k) _ l w) (z .3) in
+    let z = c .zone in
+    let a = holes-whole k (zoneFrom g z) (zoneEnd g z) (inZone g z l) h (from-whole g ok z) (to-whole g ok z) (all-keep (isWhole k) _ l w) (c .free) in
     let n : need g size % k ≡ 0 = max-whole k (g .shortest) _ (ok .shortest-clusters) (mul-mod-left _ k) in
     let len : q .len % k ≡ 0 = by-test (ltb (h .len) (need g size + g .shortest)) (λ t. simp t (a .1)) (λ t. simp t n) in
-    subst (λ (x : List Pair). All (isWhole (g .cluster)) (map (own id) x)) (p .3) (is-whole k (own id q) (a .0) len, tt)
+    subst (λ (x : List Pair). All (isWhole (g .cluster)) (map (own id) x)) (p .pairs-are) (is-whole k (own id q) (a .0) len, tt)

@@ -7,7 +7,7 @@ use lib.Dec.{ltb}
 use Rattle.bits.proofs.Tests.{by-test}
 use Rattle.model.specs.Pieces.{Piece, keep}
 use Rattle.edits.specs.Edits.{insert, put}
-use Rattle.edits.specs.Room.{In}
+use Rattle.edits.specs.Room.{In, Earlier}
 use Rattle.edits.proofs.Kept.{All}
 
 pub all-in : {A : Type 0} (t : A → Bool) (xs : List A) (h : A) → All t xs → In h xs → t h ≡ true
@@ -23,6 +23,33 @@ in-append h (x ∷ xs) ys (inr i) = go (in-append h xs ys i)
     go : In h xs ⊎ In h ys → In h (x ∷ xs) ⊎ In h ys
     go (inl j) = inl (inr j)
     go (inr j) = inr j
+
+pub in-left : {A : Type 0} (h : A) (xs ys : List A) → In h xs → In h (xs ++ ys)
+in-left h [] ys i = absurd i
+in-left h (x ∷ xs) ys (inl e) = inl e
+in-left h (x ∷ xs) ys (inr i) = inr (in-left h xs ys i)
+
+pub in-right : {A : Type 0} (h : A) (xs ys : List A) → In h ys → In h (xs ++ ys)
+in-right h [] ys i = i
+in-right h (x ∷ xs) ys i = inr (in-right h xs ys i)
+
+-- one that stands before another; and of two entries that differ one does
+pub earlier-in : {A : Type 0} (q p : A) (xs : List A) → Earlier q p xs → In q xs × In p xs
+earlier-in q p [] k = absurd k
+earlier-in q p (x ∷ xs) (inl k) = (inl (k .0), inr (k .1))
+earlier-in q p (x ∷ xs) (inr k) = let r = earlier-in q p xs k in (inr (r .0), inr (r .1))
+
+pub one-earlier : {A : Type 0} (h k : A) (xs : List A) → In h xs → In k xs → (h ≡ k) ⊎ (Earlier h k xs ⊎ Earlier k h xs)
+one-earlier h k [] i j = absurd i
+one-earlier h k (x ∷ xs) (inl p) (inl q) = inl (p ∙ sym q)
+one-earlier h k (x ∷ xs) (inl p) (inr j) = inr (inl (inl (p, j)))
+one-earlier h k (x ∷ xs) (inr i) (inl q) = inr (inr (inl (q, i)))
+one-earlier h k (x ∷ xs) (inr i) (inr j) = go (one-earlier h k xs i j)
+  where
+    go : (h ≡ k) ⊎ (Earlier h k xs ⊎ Earlier k h xs) → (h ≡ k) ⊎ (Earlier h k (x ∷ xs) ⊎ Earlier k h (x ∷ xs))
+    go (inl e) = inl e
+    go (inr (inl e)) = inr (inl (inr e))
+    go (inr (inr e)) = inr (inr (inr e))
 
 pub in-keep : {A : Type 0} (t : A → Bool) (h : A) (xs : List A) → In h xs → t h ≡ true → In h (keep t xs)
 in-keep t h [] i k = i

@@ -16,25 +16,16 @@ use Rattle.geometry.specs.Accepted.{AcceptedGeometry}
 use Rattle.geometry.specs.Places.{zoneOf, zoneFrom, zoneEnd}
 use Rattle.model.specs.Chain.{Pair}
 use Rattle.model.specs.Pieces.{Piece, keep, isOf, piecesOf, objectPairs}
-use Rattle.model.proofs.Options.{none-some}
 use Rattle.edits.specs.Edits.{notOf, without, give, inZone, Edit, takes, gives}
-use Rattle.edits.specs.Holes.{gapFits, apart, allApart, holesFrom}
+use Rattle.edits.specs.Holes.{gapFits, apart, allApart}
 use Rattle.model.specs.Answer.{Answer, refused, answered, unless}
-use Rattle.edits.specs.Judge.{Call, release, place, claim, isEmpty, pairsFrom, listFits, need, firstHole, taken, lowest, chooseIn, chosen, byChoice, judgeRest}
+use Rattle.edits.specs.Judge.{Call, release, place, claim, isEmpty, pairsFrom, listFits, need, firstHole, holesNear, taken, lowestId, unused, idFor, chooseIn, chosen, claimFits, byChoice, judgeRest}
 use Rattle.edits.proofs.Kept.{All, all-keep, keep-keep, keep-all, keep-no, length-parts, some-length}
 use Rattle.edits.proofs.Gaps.{gap-of-test, gap-le, isLong}
 use Rattle.edits.proofs.Invariant.{FitPieces}
+use Rattle.edits.proofs.Chosen.{lowest-none}
 
 -- used ids have a piece each
-pub lowest-used : (l : List Piece) (n id : ℕ) → lowest l n id ≡ none → (i : ℕ) → id ≤ i → i < id + n → piecesOf i l ≡ [] → ⊥
-lowest-used l zero id h i lo hi e = omega arith
-lowest-used l (suc n) id h i lo hi e =
-    by-test (isEmpty (piecesOf id l))
-    (λ t. none-some (sym (simp t at h)))
-    (λ t. by-test (eqb i id)
-    (λ k. absurd (false≢true (sym t ∙ ap isEmpty (ap (λ (j : ℕ). piecesOf j l) (sym (eqb-true i id k)) ∙ e))))
-    (λ k. lowest-used l n (suc id) (simp t at h) i (omega (arith, eqb-false i id k)) (omega arith) e))
-
 pub ids-few : (n id : ℕ) (l : List Piece) → ((i : ℕ) → id ≤ i → i < id + n → piecesOf i l ≡ [] → ⊥) → n ≤ length l
 ids-few zero id l h = omega arith
 ids-few (suc n) id l h =
@@ -119,8 +110,10 @@ module _ (g : Geometry) (l : List Piece) (ok : AcceptedGeometry g) (fit : FitPie
       let b : length (keep (below g (g .zones)) l) ≡ length l = ap length (keep-all (below g (g .zones)) l (fit .zoned)) in
       omega arith
 
-  pub no-fourteen : lowest l (g .ids * g .zones - 3) 3 ≡ none → ⊥
-  no-fourteen h = omega (arith, pieces-fewer, ids-few (g .ids * g .zones - 3) 3 l (lowest-used l (g .ids * g .zones - 3) 3 h))
+  pub no-fourteen : lowestId g (unused l) ≡ none → ⊥
+  no-fourteen h =
+      let n = g .ids * g .zones - 3 in
+      omega (arith, pieces-fewer, ids-few n 3 l (λ i lo hi e. false≢true (sym (lowest-none (unused l) n 3 h i lo hi) ∙ ap isEmpty e)))
 
 -- no call that passes 8 and 9 is refused with it
 pub never-fourteen : (g : Geometry) (l : List Piece) (c : Call) {z : ℕ} → AcceptedGeometry g → FitPieces g l → judgeRest g l c ≡ refused 14 z → ⊥
@@ -136,10 +129,10 @@ never-fourteen g l (place id list) ok fit h =
     let h3 = passed (isEmpty (piecesOf id l)) 11 v3 (λ e. omega arith) h in
     let h4 = passed (listFits g id list) 12 v4 (λ e. omega arith) h3 in
     edit-not (gives id qs) (passed (allApart g 0 (g .zones) (give id qs l)) 13 (answered (gives id qs)) (λ e. omega arith) h4)
-never-fourteen g l (claim size) {z = z} ok fit h =
-    go (lowest l (g .ids * g .zones - 3) 3) refl (firstHole (need g size) (holesFrom g 0 (g .zones) l)) (passed (ltb 0 size) 12 (byChoice (chosen g l size)) (λ e. omega arith) h)
+never-fourteen g l (claim size parent) {z = z} ok fit h =
+    go (lowestId g (unused l)) refl (firstHole (need g size) (holesNear g l parent)) (passed (claimFits g size parent) 12 (byChoice (chosen g l size parent)) (λ e. omega arith) h)
   where
-    go : (i : Option ℕ) → lowest l (g .ids * g .zones - 3) 3 ≡ i → (o : Option Pair) → byChoice (chooseIn i o (g .shortest) (need g size)) ≡ refused 14 z → ⊥
+    go : (i : Option ℕ) → lowestId g (unused l) ≡ i → (o : Option Pair) → byChoice (chooseIn g l (need g size) i o) ≡ refused 14 z → ⊥
     go none e o h = no-fourteen g l ok fit e
     go (some i) e none h = omega (arith, same-number h)
-    go (some i) e (some q) h = edit-not (gives i (taken (g .shortest) (need g size) q ∷ [])) h
+    go (some i) e (some q) h = edit-not (gives (idFor g l i q) (taken (g .shortest) (need g size) q ∷ [])) h

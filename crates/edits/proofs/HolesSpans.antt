@@ -4,11 +4,11 @@
 use mathlib.Core.Path.{_≡_, refl, sym, ap, ap₂, _∙_, subst, subst⁻¹}
 use mathlib.Core.List.{List, [], _∷_, _++_, map}
 use mathlib.Core.Option.{none}
-use Prim.Native.Nat.{ℕ, suc, _+_, _-_, _*_, _≤_}
+use Prim.Native.Nat.{ℕ, suc, _+_, _-_, _*_, _<_, _≤_}
 use native.Mathlib.Omega.{arith}
-use lib.Dec.{ltb, leb}
+use lib.Dec.{eqb, ltb, leb}
 use lib.ListN.{length}
-use borrow.Author.Tests.{ltb-true, ltb-false, lt-ltb, le-ltb, eqb-true, leb-true, le-leb}
+use borrow.Author.Tests.{ltb-true, ltb-false, lt-ltb, le-ltb, eqb-true, eqb-false, leb-true, le-leb}
 use Rattle.bits.proofs.Tests.{by-test}
 use Rattle.geometry.specs.declared.Geometry.{Geometry}
 use Rattle.geometry.specs.Record.{discRecord, geometryOf}
@@ -23,7 +23,7 @@ use Rattle.model.specs.Check.{zonesRead, blocksOf, mapRead}
 use Rattle.model.proofs.ChainDrawn.{Lies}
 use Rattle.model.proofs.ZoneTests.{zone-tests}
 use Rattle.edits.specs.Edits.{inZone}
-use Rattle.edits.specs.Holes.{hole, holes, holesFrom}
+use Rattle.edits.specs.Holes.{hole, holes, holesIn, holesFrom}
 use Rattle.edits.proofs.Kept.{all-append}
 use Rattle.edits.proofs.Slices.{Sized, sized-blocks, length-blocks}
 use Rattle.edits.proofs.ZonePlaces.{zoneOfPiece, zone-from, zone-end, zone-low, zone-bits, disc-zone}
@@ -66,6 +66,22 @@ abbrev ZonesDrawn : Geometry → ℕ → List (List Entry) → Type 0
 ZonesDrawn g z [] = Unit {0}
 ZonesDrawn g z (es ∷ ess) = IsDrawn g z es × ZonesDrawn g (suc z) ess
 
+-- what f finds in each zone from z on are its free fragments
+abbrev pub FreeEach : Geometry → (ℕ → List Pair) → ℕ → List (List Entry) → Type 0
+FreeEach g f z [] = Unit {0}
+FreeEach g f z (es ∷ ess) = (f z ≡ map (toDisc g z) (freeOf es)) × FreeEach g f (suc z) ess
+
+pub each-same : (g : Geometry) (f h : ℕ → List Pair) (z : ℕ) (ess : List (List Entry)) → FreeEach g f z ess → FreeEach g h z ess → (i : ℕ) → z ≤ i → i < z + length ess → f i ≡ h i
+each-same g f h z [] a b i lo hi = absurd (omega arith)
+each-same g f h z (es ∷ ess) a b i lo hi =
+    by-test (eqb i z)
+    (λ t. subst⁻¹ (λ (x : ℕ). f x ≡ h x) (eqb-true i z t) (a .0 ∙ sym (b .0)))
+    (λ t. each-same g f h (suc z) ess (a .1) (b .1) i (omega (arith, eqb-false i z t)) (omega arith))
+
+each-spans : (g : Geometry) (l : List Piece) (z : ℕ) (ess : List (List Entry)) → FreeEach g (holesIn g l) z ess → holesFrom g z (length ess) l ≡ freeSpans g z ess
+each-spans g l z [] a = refl
+each-spans g l z (es ∷ ess) a = ap₂ (λ (x y : List Pair). x ++ y) (a .0) (each-spans g l (suc z) ess (a .1))
+
 module _ (g : Geometry) (ok : AcceptedGeometry g) where
   zone-holes : (z : ℕ) (es : List Entry) → IsDrawn g z es → holes (zoneFrom g z) (zoneEnd g z) (map (pieceToDisc g z) (ownedOf es)) ≡ map (toDisc g z) (freeOf es)
   zone-holes z es d =
@@ -82,15 +98,14 @@ module _ (g : Geometry) (ok : AcceptedGeometry g) where
       (all-map _ _ rest (λ p e. le-leb z (zoneOfPiece g p) (omega (arith, leb-true (suc z) (zoneOfPiece g p) e))) (pieces-from (suc z) ess (d .1)))
 
   -- of pieces that in each zone from z on are those of the entries
-  holes-spans : (l : List Piece) (z : ℕ) (ess : List (List Entry)) → ZonesDrawn g z ess → ((i : ℕ) → z ≤ i → inZone g i l ≡ inZone g i (piecesOfZones g z ess))
-      → holesFrom g z (length ess) l ≡ freeSpans g z ess
-  holes-spans l z [] d h = refl
-  holes-spans l z (es ∷ ess) d h =
+  holes-each : (l : List Piece) (z : ℕ) (ess : List (List Entry)) → ZonesDrawn g z ess → ((i : ℕ) → z ≤ i → inZone g i l ≡ inZone g i (piecesOfZones g z ess)) → FreeEach g (holesIn g l) z ess
+  holes-each l z [] d h = tt
+  holes-each l z (es ∷ ess) d h =
       let ps = map (pieceToDisc g z) (ownedOf es) in
-      let zoned = disc-zone g ok z (firstBit z) (ownedOf es) (omega arith) (d .0 .1) in
-      ap₂ (λ (x y : List Pair). x ++ y)
-      (ap (holes (zoneFrom g z) (zoneEnd g z)) (h z (omega arith) ∙ in-zone-part g z ps (piecesOfZones g (suc z) ess) zoned (pieces-from (suc z) ess (d .1))) ∙ zone-holes z es (d .0))
-      (holes-spans l (suc z) ess (d .1) (λ i k. h i (omega arith) ∙ later-part g z i ps (piecesOfZones g (suc z) ess) k zoned))
+      let zoned = disc-zone g ok z (firstBit z) (ownedOf es) (omega arith) (d .0 .1) in (
+        ap (holes (zoneFrom g z) (zoneEnd g z)) (h z (omega arith) ∙ in-zone-part g z ps (piecesOfZones g (suc z) ess) zoned (pieces-from (suc z) ess (d .1))) ∙ zone-holes z es (d .0),
+        holes-each l (suc z) ess (d .1) (λ i k. h i (omega arith) ∙ later-part g z i ps (piecesOfZones g (suc z) ess) k zoned),
+      )
 
   -- the zones of blocks that were read, where no two free fragments touch
   zones-drawn : (z j : ℕ) (bs : List (List ℕ)) (ess : List (List Entry)) → Sized (g .sector) bs → zonesRead g z bs ≡ answered ess → touching j ess ≡ none
@@ -104,12 +119,23 @@ module _ (g : Geometry) (ok : AcceptedGeometry g) where
       let rest = zones-drawn (suc z) (suc j) bs (k .1) (y .1) (k .3) (u .1) in
       subst (λ (x : List (List Entry)). ZonesDrawn g z x × (length x ≡ length (b ∷ bs))) (k .4) (((d .answered, d .lie), rest .0), ap suc (rest .1))
 
-pub holes-are-spans : (m : List ℕ) (ess : List (List Entry)) → mapRead m ≡ answered ess → touching 0 ess ≡ none
-    → holesFrom (geometryOf m) 0 ((geometryOf m) .zones) (piecesOfZones (geometryOf m) 0 ess) ≡ freeSpans (geometryOf m) 0 ess
-holes-are-spans m ess e t =
-    let g = geometryOf m in
-    let k = map-tests m ess e in
-    let ok = test-gives-accepted (discRecord m) (k .record-fits) in
-    let d = zones-drawn g ok 0 0 (blocksOf g m) ess (sized-blocks (g .sector) (g .zones) m (k .whole)) (k .zones) t in
-    let n : length ess ≡ g .zones = d .1 ∙ length-blocks (g .sector) (g .zones) m in
-    ap (λ (i : ℕ). holesFrom g 0 i (piecesOfZones g 0 ess)) (sym n) ∙ holes-spans g ok (piecesOfZones g 0 ess) 0 ess (d .0) (λ i h. refl)
+-- a map's
+module _ (m : List ℕ) (ess : List (List Entry)) (e : mapRead m ≡ answered ess) (t : touching 0 ess ≡ none) where
+  abbrev g : Geometry
+  g = geometryOf m
+
+  abbrev l : List Piece
+  l = piecesOfZones (geometryOf m) 0 ess
+
+  drawn : AcceptedGeometry (geometryOf m) × ZonesDrawn (geometryOf m) 0 ess × (length ess ≡ (geometryOf m) .zones)
+  drawn =
+      let k = map-tests m ess e in
+      let ok = test-gives-accepted (discRecord m) (k .record-fits) in
+      let d = zones-drawn g ok 0 0 (blocksOf g m) ess (sized-blocks (g .sector) (g .zones) m (k .whole)) (k .zones) t in
+      (ok, d .0, d .1 ∙ length-blocks (g .sector) (g .zones) m)
+
+  pub holes-free : FreeEach (geometryOf m) (holesIn (geometryOf m) (piecesOfZones (geometryOf m) 0 ess)) 0 ess
+  holes-free = holes-each g (drawn .0) l 0 ess (drawn .1) (λ i h. refl)
+
+  pub holes-are-spans : holesFrom (geometryOf m) 0 ((geometryOf m) .zones) (piecesOfZones (geometryOf m) 0 ess) ≡ freeSpans (geometryOf m) 0 ess
+  holes-are-spans = ap (λ (i : ℕ). holesFrom g 0 i l) (sym (drawn .2)) ∙ each-spans g l 0 ess holes-free

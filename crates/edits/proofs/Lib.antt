@@ -8,6 +8,8 @@ pub mod Undo
 pub mod Gaps
 pub mod HolesLeft
 pub mod Invariant
+pub mod Found
+pub mod ZonesNear
 pub mod ClaimFits
 pub mod Chosen
 pub mod RunsKept

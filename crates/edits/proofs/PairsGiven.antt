@@ -67,9 +67,9 @@ given-facts g l (place jd list) id qs h =
       ordinary = subst (λ (x : ℕ). editable g x ≡ true) (given-id (t .4)) (t .0);
       some-pairs = λ n. pairs-some list (ltb-true 0 (length list) (k .0)) (eqb-true (length list % 2) 0 (k .1)) (given-pairs (t .4) ∙ n);
     }
-given-facts g l (claim size) id qs h =
-    let t = claim-tests g l size (gives id qs) h in
-    let c = chosen-id g l size (t .0) (t .1) (t .2) in
+given-facts g l (claim size parent) id qs h =
+    let t = claim-tests g l size parent (gives id qs) h in
+    let c = chosen-id g l size parent (t .0) (t .1) (t .2) in
     record {
       ordinary = subst (λ (x : ℕ). editable g x ≡ true) (given-id (t .3)) (c .ordinary);
       some-pairs = λ n. c .some-pairs (given-pairs (t .3) ∙ n);

@@ -1,5 +1,5 @@
--- The calls that edit, judged on the pieces of an accepted map (document 01, "The calls", "Numbered refusals"): refused with a number
--- in the table's order, or an edit. Assumes nothing.
+-- The calls that edit, judged on the pieces of an accepted map (document 01, "The calls", "Numbered refusals"; a claim by document 02,
+-- R-6): refused with a number in the table's order, or an edit. Assumes nothing.
 use mathlib.Core.Bool.{Bool, true, false, cond, not, _&&_}
 use mathlib.Core.List.{List, [], _∷_}
 use mathlib.Core.Option.{Option, none, some}
@@ -7,19 +7,20 @@ use Prim.Native.Nat.{ℕ, zero, suc, _+_, _-_, _*_, _/_, _%_, max}
 use lib.Dec.{eqb, ltb, leb}
 use lib.ListN.{length}
 use Rattle.geometry.specs.declared.Geometry.{Geometry}
-use Rattle.geometry.specs.Places.{zoneOf, zoneEnd, discBits, idFrom}
+use Rattle.geometry.specs.Places.{zoneOf, zoneEnd, discBits, startZone, idFrom}
 use Rattle.model.specs.Answer.{Answer, refused, answered, unless, andThen}
 use Rattle.model.specs.Chain.{Pair}
 use Rattle.model.specs.Pieces.{Piece, piecesOf, late, objectPairs}
 use Rattle.edits.specs.Order.{rank}
 use Rattle.edits.specs.Edits.{own, give, Edit, takes, gives}
-use Rattle.edits.specs.Holes.{holesFrom, allApart}
+use Rattle.edits.specs.Near.{zonesNear}
+use Rattle.edits.specs.Holes.{holesOf, allApart}
 
--- a release of an id with room for so many entries; a place of a list under an id; a claim of so many bytes
+-- a release of an id with room for so many entries; a place of a list under an id; a claim of so many bytes near a parent zone
 pub data Call : Type 0 where
   release : ℕ → ℕ → Call
   place : ℕ → List ℕ → Call
-  claim : ℕ → Call
+  claim : ℕ → ℕ → Call
 
 abbrev pub isEmpty {ℓ} : {A : Type ℓ} → List A → Bool
 isEmpty [] = true
@@ -32,7 +33,7 @@ editable g id = idFrom 3 g id
 abbrev pub callFits : Geometry → Call → Bool
 callFits g (release id room) = editable g id
 callFits g (place id list) = editable g id
-callFits g (claim size) = true
+callFits g (claim size parent) = true
 
 -- the pairs of a list that is handed in
 abbrev pub pairsFrom : List ℕ → List Pair
@@ -69,14 +70,37 @@ abbrev pub firstHole : ℕ → List Pair → Option Pair
 firstHole n [] = none
 firstHole n (h ∷ hs) = cond (leb n (h .len)) (some h) (firstHole n hs)
 
+-- "tries it, then one below, one above, two below and so on"; in a zone "holes ascending"
+abbrev pub holesNear : Geometry → List Piece → ℕ → List Pair
+holesNear g l parent = holesOf g l (zonesNear (g .zones) parent)
+
 -- "Take need bits from its start, or the whole hole if 1 to m-1 bits would remain."
 abbrev pub taken : ℕ → ℕ → Pair → Pair
 taken m n h = record { start = h .start; len = cond (ltb (h .len) (n + m)) (h .len) n }
 
--- "The id is the lowest unused one from 3": of n ids from `id` on
-abbrev pub lowest : List Piece → ℕ → ℕ → Option ℕ
-lowest l zero id = none
-lowest l (suc n) id = let r = lowest l n (suc id) in cond (isEmpty (piecesOf id l)) (some id) r
+-- the lowest number that passes a test, of n from `id` on; and so of the ids "from 3"
+abbrev pub lowest : (ℕ → Bool) → ℕ → ℕ → Option ℕ
+lowest t zero id = none
+lowest t (suc n) id = let r = lowest t n (suc id) in cond (t id) (some id) r
+
+abbrev pub lowestId : Geometry → (ℕ → Bool) → Option ℕ
+lowestId g t = lowest t (g .ids * g .zones - 3) 3
+
+-- "unused", and "whose start zone is the chosen zone"
+abbrev pub unused : List Piece → ℕ → Bool
+unused l id = isEmpty (piecesOf id l)
+
+abbrev pub unusedOf : Geometry → List Piece → ℕ → ℕ → Bool
+unusedOf g l z id = eqb (startZone g id) z && unused l id
+
+-- "The id is the lowest unused one from 3 whose start zone is the chosen zone, and only if none is left the lowest unused from 3": the chosen
+-- zone is that of the hole, and `any` the lowest of all
+abbrev pub orAny : ℕ → Option ℕ → ℕ
+orAny any none = any
+orAny any (some id) = id
+
+abbrev pub idFor : Geometry → List Piece → ℕ → Pair → ℕ
+idFor g l any h = orAny any (lowestId g (unusedOf g l (zoneOf g (h .start))))
 
 -- what a claim chooses: an id, and the pairs that it is to be given
 pub record Choice : Type 0 where
@@ -87,14 +111,18 @@ abbrev pub choice : ℕ → List Pair → Choice
 choice id qs = record { id = id; pairs = qs }
 
 -- 14: "no unused id"; 15: "no hole of length need"
-abbrev pub chooseIn : Option ℕ → Option Pair → ℕ → ℕ → Answer Choice
-chooseIn none h m n = refused 14 0
-chooseIn (some id) none m n = refused 15 0
-chooseIn (some id) (some h) m n = answered (choice id (taken m n h ∷ []))
+abbrev pub chooseIn : Geometry → List Piece → ℕ → Option ℕ → Option Pair → Answer Choice
+chooseIn g l n none h = refused 14 0
+chooseIn g l n (some any) none = refused 15 0
+chooseIn g l n (some any) (some h) = answered (choice (idFor g l any h) (taken (g .shortest) n h ∷ []))
 
--- what a claim of so many bytes chooses: the one definition that another way of choosing replaces
-abbrev pub chosen : Geometry → List Piece → ℕ → Answer Choice
-chosen g l size = chooseIn (lowest l (g .ids * g .zones - 3) 3) (firstHole (need g size) (holesFrom g 0 (g .zones) l)) (g .shortest) (need g size)
+-- what a claim of so many bytes near a parent zone chooses: the one definition that another way of choosing replaces
+abbrev pub chosen : Geometry → List Piece → ℕ → ℕ → Answer Choice
+chosen g l size parent = chooseIn g l (need g size) (lowestId g (unused l)) (firstHole (need g size) (holesNear g l parent))
+
+-- 12: "claim of 0 bytes"; "a parent zone (refusal 12 if not below nzones)"
+abbrev pub claimFits : Geometry → ℕ → ℕ → Bool
+claimFits g size parent = ltb 0 size && ltb parent (g .zones)
 
 -- "Then as place": the chosen pairs are given to the chosen id
 abbrev pub byChoice : Answer Choice → Answer Edit
@@ -116,7 +144,7 @@ judgeRest g l (place id list) =
     (unless (listFits g id list) 12
     (unless (allApart g 0 (g .zones) (give id (pairsFrom list) l)) 13
     (answered (gives id (pairsFrom list)))))
-judgeRest g l (claim size) = unless (ltb 0 size) 12 (byChoice (chosen g l size))
+judgeRest g l (claim size parent) = unless (claimFits g size parent) 12 (byChoice (chosen g l size parent))
 
 -- the verdict on a disc's pieces, where free fragments touch in this zone or in none: 8, 9, then that
 abbrev pub judge : Geometry → Option ℕ → List Piece → Call → Answer Edit

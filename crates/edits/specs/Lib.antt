@@ -1,5 +1,6 @@
 pub mod Order
 pub mod Edits
+pub mod Near
 pub mod Holes
 pub mod Judge
 pub mod Runs

@@ -1,4 +1,4 @@
--- Stretches of bits in a list: which stand in it, in which order, and which bits lie in them. Assumes nothing.
+-- The entries of a list: which stand in it and in which order; and of stretches of bits, which bits lie in them. Assumes nothing.
 use mathlib.Core.Path.{_≡_}
 use mathlib.Core.List.{List, [], _∷_}
 use mathlib.Core.Logic.{_⊎_}
@@ -11,7 +11,7 @@ In h [] = ⊥
 In h (x ∷ xs) = (h ≡ x) ⊎ In h xs
 
 -- q stands before p in a list
-abbrev pub Earlier : Pair → Pair → List Pair → Type 0
+abbrev pub Earlier : {A : Type 0} → A → A → List A → Type 0
 Earlier q p [] = ⊥
 Earlier q p (x ∷ xs) = ((q ≡ x) × In p xs) ⊎ Earlier q p xs
 

@@ -11,9 +11,10 @@ use Rattle.bits.proofs.Tests.{both}
 use Rattle.geometry.specs.declared.Geometry.{Geometry}
 use Rattle.model.specs.Chain.{Pair, Holder, free, owned, Entry}
 use Rattle.model.specs.Rules.{zoneBlock}
-use Rattle.model.specs.Check.{every, holderFits, idFits}
+use Rattle.model.specs.Answer.{answered}
+use Rattle.model.specs.Check.{every, holderFits, idFits, zoneRead}
 use Rattle.model.specs.Pieces.{toDisc, freeIf, freeOf, freeSpans}
-use Rattle.zone.specs.Lines.{entriesIn, holderNumber}
+use Rattle.zone.specs.Lines.{holderNumber}
 use Rattle.zone.proofs.EntriesRead.{is-read}
 use Rattle.map.specs.Accepted.{AcceptedMap}
 use Rattle.walk.proofs.OwnersSome.{ids-fit}
@@ -34,13 +35,14 @@ free-held g (e ∷ es) f =
     free-step g (e .holder) (e .at) (heldBy 0 es) (freeOf es) (b .0) (free-held g es (b .1))
 
 module _ (m : List ℕ) (g : Geometry) where
+  pub free-in : (z : ℕ) (es : List Entry) → zoneRead g z (zoneBlock g m z) ≡ answered es → heldIn g 0 m z ≡ map (toDisc g z) (freeOf es)
+  free-in z es r = ap (inDiscBits g z) (ap (heldBy 0) (is-read g z (zoneBlock g m z) es r .0) ∙ free-held g es (ids-fit g z (zoneBlock g m z) es r))
+
   free-from : (z : ℕ) (ess : List (List Entry)) → ReadInTurn m g z ess → freeSpans g z ess ≡ heldFrom g 0 m z (g .zones - z)
   free-from z [] r = sym (held-end g 0 m z (g .zones) (omega arith))
   free-from z (es ∷ ess) r =
       let s : suc z ≡ z + 1 = omega arith in
-      let e : entriesIn g z (zoneBlock g m z) ≡ es = is-read g z (zoneBlock g m z) es (r .1) .0 in
-      let k : map (toDisc g z) (freeOf es) ≡ heldIn g 0 m z = sym (ap (inDiscBits g z) (ap (heldBy 0) e ∙ free-held g es (ids-fit g z (zoneBlock g m z) es (r .1)))) in
-      ap₂ (λ (x y : List Pair). x ++ y) k (free-from (suc z) ess (r .2) ∙ ap (λ (i : ℕ). heldFrom g 0 m i (g .zones - i)) s)
+      ap₂ (λ (x y : List Pair). x ++ y) (sym (free-in z es (r .1))) (free-from (suc z) ess (r .2) ∙ ap (λ (i : ℕ). heldFrom g 0 m i (g .zones - i)) s)
       ∙ sym (held-turn g 0 m z (g .zones) (r .0))
 
 pub free-spans : {m : List ℕ} {g : Geometry} (a : AcceptedMap m g) → freeSpans g 0 (a .zones) ≡ heldFrom g 0 m 0 (g .zones)

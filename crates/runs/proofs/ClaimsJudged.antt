@@ -1,48 +1,45 @@
--- What a claim's verdict says of its id and its hole: the id found is the lowest that is unused, and since holes ascend each
--- stands once in their list, so those before the hole found are too short.
+-- What a claim's verdict says of its id and its hole. The zones tried are ranked, so those before the hole's have none; holes ascend, so in its zone
+-- those before it are too short. The id found is the lowest unused one of the zone, or of all.
 use mathlib.Core.Path.{_≡_, refl, sym, ap, _∙_, subst, subst⁻¹}
-use mathlib.Core.Bool.{false≢true}
-use mathlib.Core.List.{List, [], _∷_, _++_, map}
-use mathlib.Core.Option.{none, some}
+use mathlib.Core.Bool.{true, false≢true}
+use mathlib.Core.List.{List, [], _∷_, _++_, append-nil}
+use mathlib.Core.Option.{Option, none, some}
 use mathlib.Core.Logic.{_⊎_, inl, inr}
-use Prim.Native.Nat.{ℕ, zero, suc, _+_, _-_, _*_, _<_, _≤_}
+use Prim.Native.Nat.{ℕ, zero, suc, _+_, _*_, _<_, _≤_}
 use native.Mathlib.Omega.{arith}
 use lib.Dec.{eqb, ltb, leb}
-use borrow.Author.Tests.{eqb-true, eqb-false, lt-ltb, le-ltb, ltb-true, leb-false}
-use Rattle.bits.proofs.Tests.{by-test}
+use borrow.Author.Tests.{eqb-true, eq-eqb, lt-ltb, le-ltb, ltb-true, leb-false}
+use Rattle.bits.proofs.Tests.{by-test, both, and-true}
 use Rattle.geometry.specs.declared.Geometry.{Geometry}
 use Rattle.geometry.specs.Record.{geometryOf}
 use Rattle.geometry.specs.Accepted.{AcceptedGeometry}
-use Rattle.geometry.specs.Places.{zoneFrom, zoneEnd}
+use Rattle.geometry.specs.Places.{zoneOf, zoneFrom, zoneEnd, startZone}
 use Rattle.model.specs.Chain.{Pair}
-use Rattle.model.specs.Pieces.{Piece, piecesOf, late, rotate}
+use Rattle.model.specs.Pieces.{Piece, piecesOf}
+use Rattle.model.specs.Shown.{zonesOf, piecesOn, listedOn, spansOn}
 use Rattle.model.proofs.Options.{none-some, some-some}
 use Rattle.model.proofs.ChainDrawn.{Lies}
 use Rattle.edits.specs.Edits.{inZone}
-use Rattle.edits.specs.Holes.{hole, holes, holesFrom}
-use Rattle.edits.specs.Judge.{isEmpty, need, firstHole, taken, lowest}
+use Rattle.edits.specs.Near.{zonesNear}
+use Rattle.edits.specs.Holes.{hole, holes, holesIn, holesFrom, holesOf}
+use Rattle.edits.specs.Judge.{isEmpty, need, firstHole, holesNear, taken, lowestId, unused, unusedOf, idFor}
 use Rattle.edits.specs.Room.{In, Earlier}
-use Rattle.edits.proofs.Kept.{all-keep}
-use Rattle.edits.proofs.HolesLeft.{apart-lies}
-use Rattle.edits.proofs.ClaimFits.{first-in}
-use Rattle.edits.proofs.Invariant.{FitPieces, some-bits}
-use Rattle.edits.proofs.Chosen.{lowest-absent, lowest-lt, lowest-least}
 use Rattle.edits.specs.Editable.{Editable}
-use Rattle.model.specs.Shown.{zonesOf, piecesOn, spansOn}
-use Rattle.runs.specs.Claims.{ClaimRules}
+use Rattle.edits.proofs.Kept.{all-keep}
+use Rattle.edits.proofs.Entries.{in-left, in-right, earlier-in}
+use Rattle.edits.proofs.HolesLeft.{apart-lies}
+use Rattle.edits.proofs.Found.{orElse, first-append}
+use Rattle.edits.proofs.ZonesNear.{near-exists}
+use Rattle.edits.proofs.ClaimFits.{first-in, in-holes, holes-in, hole-zone}
+use Rattle.edits.proofs.Invariant.{FitPieces, some-bits}
+use Rattle.edits.proofs.Chosen.{empty, IdFor, there, elsewhere, id-found, id-ordinary}
 use Rattle.edits.proofs.MapAccepted.{map-geometry, map-disc}
 use Rattle.edits.proofs.HolesSpans.{holes-are-spans}
 use Rattle.edits.proofs.PairsGiven.{none-listed}
-
--- no id before the one found is unused
-lowest-first : (l : List Piece) (n id i : ℕ) → lowest l n id ≡ some i → (j : ℕ) → id ≤ j → j < i → piecesOf j l ≡ [] → ⊥
-lowest-first l zero id i h j lo hi e = none-some h
-lowest-first l (suc n) id i h j lo hi e =
-    by-test (isEmpty (piecesOf id l))
-    (λ t. let k : id ≡ i = some-some (simp t at h) in omega arith)
-    (λ t. by-test (eqb j id)
-    (λ k. false≢true (sym t ∙ ap isEmpty (ap (λ (x : ℕ). piecesOf x l) (sym (eqb-true j id k)) ∙ e)))
-    (λ k. lowest-first l n (suc id) i (simp t at h) j (omega (arith, eqb-false j id k)) hi e))
+use Rattle.edits.proofs.ReadsAfter.{same-pieces}
+use Rattle.runs.specs.ZonesTried.{Nearer}
+use Rattle.runs.specs.Claims.{ClaimRules}
+use Rattle.runs.proofs.ZonesTried.{nearer-asym, Ranked, ranked-near, near-named}
 
 -- pairs whose starts ascend, each from `from` on
 abbrev Ascends : ℕ → List Pair → Type 0
@@ -78,28 +75,29 @@ all-holes-ascend g l ok fit z (suc n) h =
     (apart-lies (g .shortest) (zoneFrom g z) (zoneEnd g z) (inZone g z l) (some-bits g ok) (all-keep _ _ l (fit .long)) (fit .parts z (omega arith)))
     (all-holes-ascend g l ok fit (suc z) n (omega arith))
 
+zone-ascends : (g : Geometry) (l : List Piece) → AcceptedGeometry g → FitPieces g l → (z : ℕ) → z < g .zones → Ascends (zoneFrom g z) (holesIn g l z)
+zone-ascends g l ok fit z h = subst (Ascends (zoneFrom g z)) (append-nil (holesIn g l z)) (all-holes-ascend g l ok fit z 1 (omega arith))
+
+earlier-below : (a : ℕ) (hs : List Pair) → Ascends a hs → (q h : Pair) → Earlier q h hs → q .start < h .start
+earlier-below a [] s q h k = absurd k
+earlier-below a (x ∷ xs) s q h (inl k) = let e : q .start ≡ x .start = ap (λ (r : Pair). r .start) (k .0) in omega (arith, ascends-in (suc (x .start)) xs h (s .1) (k .1))
+earlier-below a (x ∷ xs) s q h (inr k) = earlier-below (suc (x .start)) xs (s .1) q h k
+
 -- the first hole that is long enough: those before it are too short, and where there is none all are
-earlier-in : (q p : Pair) (hs : List Pair) → Earlier q p hs → In p hs
-earlier-in q p [] k = k
-earlier-in q p (x ∷ xs) (inl k) = inr (k .1)
-earlier-in q p (x ∷ xs) (inr k) = inr (earlier-in q p xs k)
-
-first-short : (n a : ℕ) (hs : List Pair) (h : Pair) → Ascends a hs → firstHole n hs ≡ some h → (q : Pair) → Earlier q h hs → q .len < n
-first-short n a [] h s e q k = absurd k
-first-short n a (x ∷ xs) h s e q k =
+first-short : (n a : ℕ) (hs : List Pair) (h : Pair) → Ascends a hs → firstHole n hs ≡ some h → (q : Pair) → In q hs → q .start < h .start → q .len < n
+first-short n a [] h s e q i k = absurd i
+first-short n a (x ∷ xs) h s e q i k =
     by-test (leb n (x .len))
-    (λ t. let w : x ≡ h = some-some (simp t at e) in
-    let u : x .start ≡ h .start = ap (λ (r : Pair). r .start) w in
-    absurd (omega (arith, ascends-in (suc (x .start)) xs h (s .1) (after k))))
-    (λ t. before k (leb-false n (x .len) t) (first-short n (suc (x .start)) xs h (s .1) (simp t at e) q))
+    (λ t. let w : x ≡ h = some-some (simp t at e) in absurd (here (ap (λ (r : Pair). r .start) w) i))
+    (λ t. further (leb-false n (x .len) t) i (λ j. first-short n (suc (x .start)) xs h (s .1) (simp t at e) q j k))
   where
-    after : ((q ≡ x) × In h xs) ⊎ Earlier q h xs → In h xs
-    after (inl j) = j .1
-    after (inr j) = earlier-in q h xs j
+    here : x .start ≡ h .start → (q ≡ x) ⊎ In q xs → ⊥
+    here w (inl j) = let u : q .start ≡ x .start = ap (λ (r : Pair). r .start) j in omega arith
+    here w (inr j) = omega (arith, ascends-in (suc (x .start)) xs q (s .1) j)
 
-    before : ((q ≡ x) × In h xs) ⊎ Earlier q h xs → x .len < n → (Earlier q h xs → q .len < n) → q .len < n
-    before (inl j) lt ih = let u : q .len ≡ x .len = ap (λ (r : Pair). r .len) (j .0) in omega arith
-    before (inr j) lt ih = ih j
+    further : x .len < n → (q ≡ x) ⊎ In q xs → (In q xs → q .len < n) → q .len < n
+    further lt (inl j) ih = let u : q .len ≡ x .len = ap (λ (r : Pair). r .len) j in omega arith
+    further lt (inr j) ih = ih j
 
 pub none-long : (n : ℕ) (hs : List Pair) → firstHole n hs ≡ none → (h : Pair) → In h hs → h .len < n
 none-long n [] e h i = absurd i
@@ -112,6 +110,44 @@ none-long n (x ∷ xs) e h i =
     go (inl j) lt ih = let u : h .len ≡ x .len = ap (λ (r : Pair). r .len) j in omega arith
     go (inr j) lt ih = ih j
 
+-- of ranked zones: the hole found is the first of its zone, and no zone before that has one; where none is found no zone has one
+module _ (g : Geometry) (l : List Piece) (n p : ℕ) where
+  pub record InNearest (zs : List ℕ) (h : Pair) : Type 0 where
+    pub zone : ℕ
+    pub tried : In zone zs
+    pub found : firstHole n (holesIn g l zone) ≡ some h
+    pub none-nearer : (y : ℕ) → In y zs → Nearer p y zone → firstHole n (holesIn g l y) ≡ none
+
+  nearest-first : (zs : List ℕ) → Ranked p zs → (h : Pair) → firstHole n (holesOf g l zs) ≡ some h → InNearest zs h
+  nearest-first [] r h e = absurd (none-some e)
+  nearest-first (x ∷ xs) r h e = go (firstHole n (holesIn g l x)) refl (nearest-first xs (r .1) h)
+    where
+      split : (o : Option Pair) → firstHole n (holesIn g l x) ≡ o → orElse o (firstHole n (holesOf g l xs)) ≡ some h
+      split o k = ap (λ (u : Option Pair). orElse u (firstHole n (holesOf g l xs))) (sym k) ∙ sym (first-append n (holesIn g l x) (holesOf g l xs)) ∙ e
+
+      before : (z : ℕ) → firstHole n (holesIn g l x) ≡ none → ((y : ℕ) → In y xs → Nearer p y z → firstHole n (holesIn g l y) ≡ none) → (y : ℕ) → In y (x ∷ xs) → Nearer p y z
+          → firstHole n (holesIn g l y) ≡ none
+      before z k f y (inl j) m = ap (λ (u : ℕ). firstHole n (holesIn g l u)) j ∙ k
+      before z k f y (inr j) m = f y j m
+
+      behind : (y : ℕ) → In y (x ∷ xs) → Nearer p y x → ⊥
+      behind y (inl j) m = let u : Nearer p x x = subst (λ (v : ℕ). Nearer p v x) j m in nearer-asym p x x u u
+      behind y (inr j) m = nearer-asym p x y (r .0 y j) m
+
+      go : (o : Option Pair) → firstHole n (holesIn g l x) ≡ o → (firstHole n (holesOf g l xs) ≡ some h → InNearest xs h) → InNearest (x ∷ xs) h
+      go none k ih =
+          let f = ih (split none k) in
+          record { zone = f .zone; tried = inr (f .tried); found = f .found; none-nearer = before (f .zone) k (f .none-nearer) }
+      go (some q) k ih = record { zone = x; tried = inl refl; found = k ∙ split (some q) k; none-nearer = λ y i m. absurd (behind y i m) }
+
+  none-found : (zs : List ℕ) → firstHole n (holesOf g l zs) ≡ none → (z : ℕ) → In z zs → (h : Pair) → In h (holesIn g l z) → h .len < n
+  none-found zs e z i h j = none-long n (holesOf g l zs) e h (among zs i)
+    where
+      among : (zs : List ℕ) → In z zs → In h (holesOf g l zs)
+      among [] i = absurd i
+      among (x ∷ xs) (inl k) = in-left h (holesIn g l x) (holesOf g l xs) (subst (λ (u : ℕ). In h (holesIn g l u)) k j)
+      among (x ∷ xs) (inr k) = in-right h (holesIn g l x) (holesOf g l xs) (among xs k)
+
 -- what is taken, where nothing or at least m bits would remain
 part-taken : (m n : ℕ) (h : Pair) → (h .len ≡ n) ⊎ (n + m ≤ h .len) → (taken m n h) .len ≡ n
 part-taken m n h (inl e) = by-test (ltb (h .len) (n + m)) (λ t. simp t e) (λ t. simp t)
@@ -121,30 +157,114 @@ part-taken m n h (inr k) = simp (le-ltb (h .len) (n + m) k)
 pub spans-holes : (m : List ℕ) → Editable m → spansOn m ≡ holesFrom (geometryOf m) 0 ((geometryOf m) .zones) (piecesOn (geometryOf m) m)
 spans-holes m ed = sym (holes-are-spans m (zonesOf m) (ed .accepted) (ed .apart))
 
--- the id and the hole found keep the rules
-pub claim-rules : (m : List ℕ) → Editable m → (size id : ℕ) (h : Pair) → lowest (piecesOn (geometryOf m) m) ((geometryOf m) .ids * (geometryOf m) .zones - 3) 3 ≡ some id
-    → firstHole (need (geometryOf m) size) (holesFrom (geometryOf m) 0 ((geometryOf m) .zones) (piecesOn (geometryOf m) m)) ≡ some h
-    → ClaimRules m size id (taken ((geometryOf m) .shortest) (need (geometryOf m) size) h)
-claim-rules m ed size id h i e =
-    let g = geometryOf m in
-    let l = piecesOn g m in
-    let n = need g size in
-    let ids = g .ids * g .zones - 3 in
-    let hs = holesFrom g 0 (g .zones) l in
-    let ok = map-geometry m (zonesOf m) (ed .bytes) (ed .accepted) in
-    let fit = map-disc m (zonesOf m) (ed .bytes) (ed .accepted) .pieces .fit in
-    let up : Ascends (zoneFrom g 0) hs = all-holes-ascend g l ok fit 0 (g .zones) (omega arith) in
-    let k = first-in n hs h e in
-    record {
-      from-3 = lowest-least l ids 3 id i;
-      below = omega (arith, lowest-lt l ids 3 id i);
-      unused = ap (λ (ps : List Piece). map (λ (p : Piece). p .at) (rotate (late g id) ps)) (lowest-absent l ids 3 id i);
-      lowest = λ j lo hi q. lowest-first l ids 3 id i j lo hi (none-listed g j l q);
-      hole = h;
-      free = subst⁻¹ (In h) (spans-holes m ed) (k .0);
-      enough = k .1;
-      first = λ q w. first-short n (zoneFrom g 0) hs h up e q (subst (Earlier q h) (spans-holes m ed) w);
-      start = refl;
-      whole = λ lo hi. simp (lt-ltb (h .len) (n + g .shortest) hi);
-      part = part-taken (g .shortest) n h;
-    }
+-- the id that is found for a zone, in terms of what the map lists
+module _ (m : List ℕ) (z id : ℕ) where
+  pub record IdRules : Type 0 where
+    pub lowest-there : (j : ℕ) → 3 ≤ j → j < id → startZone (geometryOf m) j ≡ z → listedOn m j ≡ [] → ⊥
+    pub none-there : (startZone (geometryOf m) id ≡ z → ⊥) → (j : ℕ) → 3 ≤ j → j < (geometryOf m) .ids * (geometryOf m) .zones → startZone (geometryOf m) j ≡ z → listedOn m j ≡ [] → ⊥
+    pub lowest-of-all : (startZone (geometryOf m) id ≡ z → ⊥) → (j : ℕ) → 3 ≤ j → j < id → listedOn m j ≡ [] → ⊥
+
+  listed-unused : (j : ℕ) → listedOn m j ≡ [] → unused (piecesOn (geometryOf m) m) j ≡ true
+  listed-unused j e = ap isEmpty (none-listed (geometryOf m) j (piecesOn (geometryOf m) m) e)
+
+  listed-there : (j : ℕ) → startZone (geometryOf m) j ≡ z → listedOn m j ≡ [] → unusedOf (geometryOf m) (piecesOn (geometryOf m) m) z j ≡ true
+  listed-there j s e = and-true (eqb (startZone (geometryOf m) j) z) (unused (piecesOn (geometryOf m) m) j) (eq-eqb (startZone (geometryOf m) j) z s) (listed-unused j e)
+
+  id-rules : IdFor (geometryOf m) (piecesOn (geometryOf m) m) z id → IdRules
+  id-rules (there a) =
+      let g = geometryOf m in
+      let s : startZone g id ≡ z = eqb-true (startZone g id) z (both (eqb (startZone g id) z) (unused (piecesOn g m) id) (a .passes) .0) in
+      record {
+        lowest-there = λ j lo hi k e. false≢true (sym (a .first j lo hi) ∙ listed-there j k e);
+        none-there = λ n. absurd (n s);
+        lowest-of-all = λ n. absurd (n s);
+      }
+  id-rules (elsewhere a f) = record {
+    lowest-there = λ j lo hi k e. false≢true (sym (f j lo (omega (arith, a .below))) ∙ listed-there j k e);
+    none-there = λ n j lo hi k e. false≢true (sym (f j lo hi) ∙ listed-there j k e);
+    lowest-of-all = λ n j lo hi e. false≢true (sym (a .first j lo hi) ∙ listed-unused j e);
+  }
+
+module _ (m : List ℕ) (ed : Editable m) (size parent : ℕ) (inside : parent < (geometryOf m) .zones) where
+  abbrev g : Geometry
+  g = geometryOf m
+
+  abbrev l : List Piece
+  l = piecesOn (geometryOf m) m
+
+  ok : AcceptedGeometry (geometryOf m)
+  ok = map-geometry m (zonesOf m) (ed .bytes) (ed .accepted)
+
+  fit : FitPieces (geometryOf m) (piecesOn (geometryOf m) m)
+  fit = map-disc m (zonesOf m) (ed .bytes) (ed .accepted) .pieces .fit
+
+  -- a span is a hole of its zone
+  span-hole : (h : Pair) → In h (spansOn m) → (zoneOf (geometryOf m) (h .start) < (geometryOf m) .zones) × In h (holesIn (geometryOf m) (piecesOn (geometryOf m) m) (zoneOf (geometryOf m) (h .start)))
+  span-hole h i =
+      let z = in-holes g 0 (g .zones) l h (subst (In h) (spans-holes m ed) i) in
+      let k : z .0 < g .zones = omega (arith, z .2) in
+      let e = hole-zone g l ok fit (z .0) k h (z .3) in
+      subst⁻¹ (λ (x : ℕ). (x < g .zones) × In h (holesIn g l x)) e (k, z .3)
+
+  pub none-near : firstHole (need (geometryOf m) size) (holesNear (geometryOf m) (piecesOn (geometryOf m) m) parent) ≡ none → (h : Pair) → In h (spansOn m) → h .len < need (geometryOf m) size
+  none-near e h i =
+      let s = span-hole h i in
+      none-found g l (need g size) parent (zonesNear (g .zones) parent) e (zoneOf g (h .start)) (near-named (g .zones) parent inside (zoneOf g (h .start)) (s .0)) h (s .1)
+
+  -- the id and the hole found keep the rules
+  module _ (any : ℕ) (h : Pair) (ei : lowestId (geometryOf m) (unused (piecesOn (geometryOf m) m)) ≡ some any)
+      (eh : firstHole (need (geometryOf m) size) (holesNear (geometryOf m) (piecesOn (geometryOf m) m) parent) ≡ some h) where
+    near : InNearest (geometryOf m) (piecesOn (geometryOf m) m) (need (geometryOf m) size) parent (zonesNear ((geometryOf m) .zones) parent) h
+    near = nearest-first g l (need g size) parent (zonesNear (g .zones) parent) (ranked-near (g .zones) parent inside) h eh
+
+    there-zone : near .zone < (geometryOf m) .zones
+    there-zone = near-exists (g .zones) parent inside (near .zone) (near .tried)
+
+    in-it : In h (holesIn (geometryOf m) (piecesOn (geometryOf m) m) (near .zone)) × (need (geometryOf m) size ≤ h .len)
+    in-it = first-in (need g size) (holesIn g l (near .zone)) h (near .found)
+
+    zone-is : zoneOf (geometryOf m) (h .start) ≡ near .zone
+    zone-is = hole-zone g l ok fit (near .zone) there-zone h (in-it .0)
+
+    pub near-free : In h (spansOn m) × (need (geometryOf m) size ≤ h .len)
+    near-free = (subst⁻¹ (In h) (spans-holes m ed) (holes-in g 0 (g .zones) l (near .zone) (omega arith) (omega (arith, there-zone)) h (in-it .0)), in-it .1)
+
+    nearest : (q : Pair) → In q (spansOn m) → Nearer parent (zoneOf (geometryOf m) (q .start)) (zoneOf (geometryOf m) (h .start)) → q .len < need (geometryOf m) size
+    nearest q i n =
+        let s = span-hole q i in
+        let y = zoneOf g (q .start) in
+        none-long (need g size) (holesIn g l y) (near .none-nearer y (near-named (g .zones) parent inside y (s .0)) (subst (Nearer parent y) zone-is n)) q (s .1)
+
+    first-there : (q : Pair) → Earlier q h (spansOn m) → zoneOf (geometryOf m) (q .start) ≡ zoneOf (geometryOf m) (h .start) → q .len < need (geometryOf m) size
+    first-there q k e =
+        let hs = holesFrom g 0 (g .zones) l in
+        let up : Ascends (zoneFrom g 0) hs = all-holes-ascend g l ok fit 0 (g .zones) (omega arith) in
+        let s = span-hole q (earlier-in q h (spansOn m) k .0) in
+        first-short (need g size) (zoneFrom g (near .zone)) (holesIn g l (near .zone)) h (zone-ascends g l ok fit (near .zone) there-zone) (near .found) q
+        (subst (λ (x : ℕ). In q (holesIn g l x)) (e ∙ zone-is) (s .1))
+        (earlier-below (zoneFrom g 0) hs up q h (subst (Earlier q h) (spans-holes m ed) k))
+
+    pub claim-rules : ClaimRules m size parent (idFor (geometryOf m) (piecesOn (geometryOf m) m) any h) (taken ((geometryOf m) .shortest) (need (geometryOf m) size) h)
+    claim-rules =
+        let n = need g size in
+        let id = idFor g l any h in
+        let z = zoneOf g (h .start) in
+        let found = id-found g l any h ei in
+        let o = id-ordinary g l z id found in
+        let r = id-rules m z id found in
+        record {
+          hole = h;
+          free = near-free .0;
+          enough = near-free .1;
+          nearest = nearest;
+          first = first-there;
+          start = refl;
+          whole = λ lo hi. simp (lt-ltb (h .len) (n + g .shortest) hi);
+          part = part-taken (g .shortest) n h;
+          from-3 = o .0;
+          below = o .1;
+          unused = same-pieces g id l [] (empty (piecesOf id l) (o .2));
+          lowest-there = r .lowest-there;
+          none-there = r .none-there;
+          lowest-of-all = r .lowest-of-all;
+        }

@@ -110,9 +110,9 @@ edit-number g l (release id room) e h =
 edit-number g l (place id list) e h =
     let t = place-tests g l id list e h in
     subst (λ (x : Edit). editId x < g .ids * g .zones) (t .4) (below-limit g id (t .0))
-edit-number g l (claim size) e h =
-    let t = claim-tests g l size e h in
-    subst (λ (x : Edit). editId x < g .ids * g .zones) (t .3) (below-limit g (t .0) (chosen-id g l size (t .0) (t .1) (t .2) .ordinary))
+edit-number g l (claim size parent) e h =
+    let t = claim-tests g l size parent e h in
+    subst (λ (x : Edit). editId x < g .ids * g .zones) (t .3) (below-limit g (t .0) (chosen-id g l size parent (t .0) (t .1) (t .2) .ordinary))
 
 -- a run keeps the key
 pub run-key : (g : Geometry) (s : Disc) (cs : List Call) → AcceptedGeometry g → FitPieces g (s .pieces)

@@ -4,11 +4,11 @@ use mathlib.Core.Path.{_≡_, refl, sym, ap, _∙_, subst, subst⁻¹}
 use mathlib.Core.Bool.{Bool, true, not, false≢true}
 use mathlib.Core.List.{List, [], _∷_, map}
 use mathlib.Core.Logic.{_⊎_, _↔_, inl, inr}
-use Prim.Native.Nat.{ℕ, zero, suc, _+_, _-_, _*_, _<_, _≤_}
+use Prim.Native.Nat.{ℕ, suc, _+_, _-_, _*_, _<_, _≤_}
 use native.Mathlib.Nat.{div-mul-le-self, div-lt-iff-lt-mul}
 use native.Mathlib.Omega.{arith}
 use lib.Dec.{eqb, ltb, leb}
-use borrow.Author.Tests.{eqb-true, eqb-false, eq-eqb, ltb-true, ltb-false, leb-true, leb-false, lt-ltb}
+use borrow.Author.Tests.{eqb-true, eq-eqb, ltb-true, ltb-false, leb-true, leb-false, lt-ltb}
 use Rattle.bits.proofs.Tests.{by-test}
 use Rattle.geometry.specs.declared.Geometry.{Geometry}
 use Rattle.geometry.specs.Record.{geometryOf}
@@ -24,14 +24,13 @@ use Rattle.edits.specs.Holes.{hole, holes, holesFrom}
 use Rattle.edits.specs.Room.{In, InSome}
 use Rattle.edits.specs.Steps.{discOf}
 use Rattle.edits.specs.Editable.{Editable, releasedIn, givenIn}
-use Rattle.edits.proofs.Entries.{all-in, in-append, in-keep, in-kept, in-map, map-in, insert-own, in-insert, in-put, put-in}
-use Rattle.edits.proofs.ClaimFits.{in-holes}
+use Rattle.edits.proofs.Entries.{all-in, in-append, in-left, in-right, in-keep, in-kept, in-map, map-in, insert-own, in-insert, in-put, put-in}
+use Rattle.edits.proofs.ClaimFits.{in-holes, holes-in}
 use Rattle.edits.proofs.Invariant.{FitPieces, some-zone, on-disc, zoned-on-disc, in-zone}
 use Rattle.edits.proofs.MapAccepted.{map-geometry, map-disc}
 use Rattle.edits.proofs.Undo.{Allowed}
 use Rattle.runs.proofs.Sharing.{lies-from}
 use Rattle.runs.proofs.Thirteen.{bit-zone, zone-lies, piece-end}
-use Rattle.runs.proofs.Touches.{in-left, in-right}
 use Rattle.runs.proofs.ClaimsJudged.{spans-holes}
 
 -- no piece has bit d
@@ -93,16 +92,6 @@ free-holes at end (p ∷ ps) y d lo hi n =
     (λ t. by-test (ltb d e)
     (λ u. absurd (n p (inl refl) (ltb-false d (p .at .start) t, ltb-true d e u)))
     (λ u. hole-on at (p .at .start) (holes e end ps) d (free-holes e end ps (y .2) d (ltb-false d e u) hi (λ x i. n x (inr i)))))
-
--- a zone's holes are among all
-holes-in : (g : Geometry) (z n : ℕ) (l : List Piece) (i : ℕ) → z ≤ i → i < z + n → (h : Pair) → In h (holes (zoneFrom g i) (zoneEnd g i) (inZone g i l)) → In h (holesFrom g z n l)
-holes-in g z zero l i lo hi h k = absurd (omega arith)
-holes-in g z (suc n) l i lo hi h k =
-    by-test (eqb i z)
-    (λ t. in-left h (holes (zoneFrom g z) (zoneEnd g z) (inZone g z l)) (holesFrom g (suc z) n l)
-    (subst (λ (j : ℕ). In h (holes (zoneFrom g j) (zoneEnd g j) (inZone g j l))) (eqb-true i z t) k))
-    (λ t. in-right h (holes (zoneFrom g z) (zoneEnd g z) (inZone g z l)) (holesFrom g (suc z) n l)
-    (holes-in g (suc z) n l i (omega (arith, eqb-false i z t)) (omega arith) h k))
 
 module _ (g : Geometry) (l : List Piece) (ok : AcceptedGeometry g) (fit : FitPieces g l) where
   -- a piece's bits lie in its zone, and on the disc map

@@ -8,6 +8,7 @@ pub mod EditsOf
 pub mod FreeBits
 pub mod StepLaws
 pub mod EveryRun
+pub mod ZonesTried
 pub mod ClaimsJudged
 pub mod MapRefused
 pub mod MapsEdited

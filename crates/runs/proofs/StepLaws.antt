@@ -154,11 +154,11 @@ module _ (m : List ℕ) (ed : Editable m) where
         undo c (release id room) e (takes id qs) h k (strike [] [] (released id qs qs) nothing),
       )
 
-  pub claim-places : (size id : ℕ) (qs : List Pair) → Accepted m (claim size) (gives id qs)
-      → Accepted m (place id (numbersOf qs)) (gives id qs) × (step m (place id (numbersOf qs)) ≡ step m (claim size))
-  claim-places size id qs a =
-      let h = verdict (claim size) (gives id qs) a in
-      let k = given-placed (geometryOf m) ok s pieces-ok (claim size) id qs h in
+  pub claim-places : (size parent id : ℕ) (qs : List Pair) → Accepted m (claim size parent) (gives id qs)
+      → Accepted m (place id (numbersOf qs)) (gives id qs) × (step m (place id (numbersOf qs)) ≡ step m (claim size parent))
+  claim-places size parent id qs a =
+      let h = verdict (claim size parent) (gives id qs) a in
+      let k = given-placed (geometryOf m) ok s pieces-ok (claim size parent) id qs h in
       let x = step-accepted m (zonesOf m) (ed .bytes) (ed .accepted) (ed .apart) (place id (numbersOf qs)) (gives id qs) k in
-      let y = step-accepted m (zonesOf m) (ed .bytes) (ed .accepted) (ed .apart) (claim size) (gives id qs) h in
+      let y = step-accepted m (zonesOf m) (ed .bytes) (ed .accepted) (ed .apart) (claim size parent) (gives id qs) h in
       (accept (place id (numbersOf qs)) (gives id qs) k, x .1 ∙ sym (y .1))

@@ -1,10 +1,10 @@
 -- Release, place and claim by their lines: each test of the definitions is the line that it stands for, in the table's order.
-use mathlib.Core.Path.{_≡_, refl, sym, ap, _∙_, subst, subst⁻¹}
+use mathlib.Core.Path.{_≡_, refl, sym, ap, _∙_, subst}
 use mathlib.Core.Bool.{Bool, true, false, not, _&&_, false≢true}
 use mathlib.Core.List.{List, [], _∷_}
 use mathlib.Core.Option.{Option, none, some}
-use mathlib.Core.Logic.{_↔_, inl, inr}
-use Prim.Native.Nat.{ℕ, _-_, _*_, _%_, _<_, _≤_}
+use mathlib.Core.Logic.{_⊎_, _↔_, inl, inr}
+use Prim.Native.Nat.{ℕ, _*_, _%_, _<_, _≤_}
 use native.Mathlib.Omega.{arith}
 use lib.Dec.{eqb, ltb, leb}
 use lib.ListN.{length}
@@ -23,13 +23,11 @@ use Rattle.model.specs.Rules.{MapRules}
 use Rattle.model.proofs.MapJudged.{rules-accepted}
 use Rattle.model.proofs.LinesJudged.{OneZone, line-one, unless-says, unless-line, table-says, by-table}
 use Rattle.edits.specs.Edits.{Edit, give, takes, gives}
-use Rattle.edits.specs.Holes.{holesFrom, allApart}
-use Rattle.edits.specs.Judge.{release, place, claim, isEmpty, editable, pairsFrom, pairsFit, listFits, need, firstHole, taken, lowest, chooseIn, chosen, byChoice, judgeRest, byTouching}
-use Rattle.edits.specs.Room.{In}
+use Rattle.edits.specs.Holes.{allApart}
+use Rattle.edits.specs.Judge.{release, place, claim, isEmpty, editable, pairsFrom, pairsFit, listFits, need, firstHole, holesNear, taken, lowestId, unused, idFor, chooseIn, chosen, claimFits, byChoice, judgeRest, byTouching}
 use Rattle.edits.specs.Steps.{byRead, outcome}
 use Rattle.edits.specs.Editable.{Editable}
-use Rattle.edits.proofs.Chosen.{empty, lowest-absent, lowest-lt, lowest-least}
-use Rattle.edits.proofs.Fourteen.{lowest-used}
+use Rattle.edits.proofs.Chosen.{empty, lowest-id, no-lowest-id}
 use Rattle.edits.proofs.MapAccepted.{map-geometry}
 use Rattle.edits.proofs.PairsGiven.{none-listed}
 use Rattle.edits.proofs.ReadsAfter.{same-pieces}
@@ -39,9 +37,8 @@ use Rattle.runs.specs.Refusals.{nine, ten, eleven, twelve, twelveClaim, 
 use Rattle.runs.proofs.Touches.{map-apart, map-touches}
 use Rattle.runs.proofs.Twelve.{fits-gives-rules, rules-give-fits}
 use Rattle.runs.proofs.RoomForList as room
-use Rattle.runs.proofs.ClaimsJudged.{none-long, spans-holes, claim-rules}
+use Rattle.runs.proofs.ClaimsJudged.{none-near, near-free, claim-rules}
 use Rattle.runs.proofs.OneClaim.{one-claim}
-use Rattle.edits.proofs.ClaimFits.{first-in}
 
 -- 9 tells one zone
 pub nine-one : (m : List ℕ) → OneZone (nine m)
@@ -177,46 +174,58 @@ module _ (m : List ℕ) where
           (place-lines (read-zones ess e)))
 
     -- claim
-    module _ (size : ℕ) where
-      claimed : Editable m → LinesSay (fourteen m ∷ fifteen m size ∷ []) (ClaimTakes m size) (byChoice (chosen (geometryOf m) (piecesOn (geometryOf m) m) size))
-      claimed ed = go (lowest l ids 3) refl (firstHole n hs) refl
+    module _ (size parent : ℕ) where
+      claimed : Editable m → parent < (geometryOf m) .zones
+          → LinesSay (fourteen m ∷ fifteen m size ∷ []) (ClaimTakes m size parent) (byChoice (chosen (geometryOf m) (piecesOn (geometryOf m) m) size parent))
+      claimed ed inside = go (lowestId g (unused l)) refl (firstHole n hs) refl
         where
-          ids : ℕ
-          ids = (geometryOf m) .ids * (geometryOf m) .zones - 3
-
           n : ℕ
           n = need (geometryOf m) size
 
           hs : List Pair
-          hs = holesFrom (geometryOf m) 0 ((geometryOf m) .zones) (piecesOn (geometryOf m) m)
+          hs = holesNear (geometryOf m) (piecesOn (geometryOf m) m) parent
 
-          unused : (id : ℕ) → lowest l ids 3 ≡ some id → ((i : ℕ) → 3 ≤ i → i < g .ids * g .zones → listedOn m i ≡ [] → ⊥) → ⊥
-          unused id a k = k id (lowest-least l ids 3 id a) (omega (arith, lowest-lt l ids 3 id a)) (same-pieces g id l [] (lowest-absent l ids 3 id a))
+          some-unused : (id : ℕ) → lowestId (geometryOf m) (unused (piecesOn (geometryOf m) m)) ≡ some id
+              → ((i : ℕ) → 3 ≤ i → i < (geometryOf m) .ids * (geometryOf m) .zones → listedOn m i ≡ [] → ⊥) → ⊥
+          some-unused id a k = let i = lowest-id g (unused l) id a in k id (i .from-3) (i .below) (absent id (i .passes))
 
-          go : (i : Option ℕ) → lowest l ids 3 ≡ i → (o : Option Pair) → firstHole n hs ≡ o
-              → LinesSay (fourteen m ∷ fifteen m size ∷ []) (ClaimTakes m size) (byChoice (chooseIn i o (g .shortest) n))
-          go none a o b = inl (0, (refl, λ i lo hi k. lowest-used l ids 3 a i lo (omega arith) (none-listed g i l k)), refl)
-          go (some id) a none b = inr ((λ z p. unused id a (p .1)), inl (0, (refl, λ h i. none-long n hs b h (subst (In h) (spans-holes m ed) i)), refl))
+          go : (i : Option ℕ) → lowestId (geometryOf m) (unused (piecesOn (geometryOf m) m)) ≡ i → (o : Option Pair) → firstHole n hs ≡ o
+              → LinesSay (fourteen m ∷ fifteen m size ∷ []) (ClaimTakes m size parent) (byChoice (chooseIn (geometryOf m) (piecesOn (geometryOf m) m) n i o))
+          go none a o b = inl (0, (refl, λ i lo hi k. false≢true (sym (no-lowest-id g (unused l) a i lo hi) ∙ listed i k)), refl)
+          go (some id) a none b = inr ((λ z p. some-unused id a (p .1)), inl (0, (refl, none-near m ed size parent inside b), refl))
           go (some id) a (some h) b =
-              let k = first-in n hs h b in
+              let k = near-free m ed size parent inside id h a b in
               inr (
-                (λ z p. unused id a (p .1)),
+                (λ z p. some-unused id a (p .1)),
                 inr (
-                  (λ z p. omega (arith, k .1, p .1 h (subst⁻¹ (In h) (spans-holes m ed) (k .0)))),
-                  (id, taken (g .shortest) n h, refl, claim-rules m ed size id h a b),
+                  (λ z p. omega (arith, k .1, p .1 h (k .0))),
+                  (idFor g l id h, taken (g .shortest) n h, refl, claim-rules m ed size parent inside id h a b),
                 ),
               )
 
-      claim-lines : mapRead m ≡ answered (zonesOf m) → LinesSay (claimLines m size) (ClaimTakes m size) (byRead (geometryOf m) (claim size) (zonesOf m))
+      unfit : claimFits (geometryOf m) size parent ≡ false → (size ≡ 0) ⊎ ((geometryOf m) .zones ≤ parent)
+      unfit t =
+          by-test (ltb 0 size)
+          (λ u. inr (ltb-false parent (g .zones) (simp u at t)))
+          (λ u. inl (omega (arith, ltb-false 0 size u)))
+
+      fits : claimFits (geometryOf m) size parent ≡ true → (0 < size) × (parent < (geometryOf m) .zones)
+      fits t = let b = both (ltb 0 size) (ltb parent (g .zones)) t in (ltb-true 0 size (b .0), ltb-true parent (g .zones) (b .1))
+
+      not-both : (0 < size) × (parent < (geometryOf m) .zones) → (size ≡ 0) ⊎ ((geometryOf m) .zones ≤ parent) → ⊥
+      not-both f (inl e) = omega (arith, f .0)
+      not-both f (inr e) = omega (arith, f .1)
+
+      claim-lines : mapRead m ≡ answered (zonesOf m) → LinesSay (claimLines m size parent) (ClaimTakes m size parent) (byRead (geometryOf m) (claim size parent) (zonesOf m))
       claim-lines r =
           let rest = fourteen m ∷ fifteen m size ∷ [] in
-          let v = byChoice (chosen g l size) in
-          touch-line r (twelveClaim m size ∷ rest) (ClaimTakes m size) (unless (ltb 0 size) 12 v) (touching 0 (zonesOf m)) refl
-          (λ n. unless-says (ltb 0 size) 12 (size ≡ 0) rest (ClaimTakes m size) v
-          (λ t. omega (arith, ltb-false 0 size t)) (λ t k. omega (arith, ltb-true 0 size t)) (λ t. claimed (editable-map r n)))
+          let v = byChoice (chosen g l size parent) in
+          touch-line r (twelveClaim m size parent ∷ rest) (ClaimTakes m size parent) (unless (claimFits g size parent) 12 v) (touching 0 (zonesOf m)) refl
+          (λ n. unless-says (claimFits g size parent) 12 ((size ≡ 0) ⊎ (g .zones ≤ parent)) rest (ClaimTakes m size parent) v
+          unfit (λ t. not-both (fits t)) (λ t. claimed (editable-map r n) (fits t .1)))
 
-      pub claim-by-table : Exactly (TableSays m (claimLines m size) (ClaimTakes m size)) (outcome m (claim size))
+      pub claim-by-table : Exactly (TableSays m (claimLines m size parent) (ClaimTakes m size parent)) (outcome m (claim size parent))
       claim-by-table =
-          table-says m (claimLines m size) (ClaimTakes m size) (nine-one m, (line-one 12 _, (line-one 14 _, (line-one 15 _, tt)))) (one-claim m size) (byRead g (claim size))
-          (λ ess e. subst (λ (x : List (List Entry)). LinesSay (claimLines m size) (ClaimTakes m size) (byRead g (claim size) x)) (zones-read ess e)
+          table-says m (claimLines m size parent) (ClaimTakes m size parent) (nine-one m, (line-one 12 _, (line-one 14 _, (line-one 15 _, tt)))) (one-claim m size parent) (byRead g (claim size parent))
+          (λ ess e. subst (λ (x : List (List Entry)). LinesSay (claimLines m size parent) (ClaimTakes m size parent) (byRead g (claim size parent) x)) (zones-read ess e)
           (claim-lines (read-zones ess e)))

@@ -2,7 +2,7 @@
 -- starts where another ends, since the fragments of a zone lie one after another from its first bit to its end.
 use mathlib.Core.Path.{_≡_, refl, sym, ap, _∙_, subst}
 use mathlib.Core.Bool.{Bool, true, false, not, _&&_, false≢true}
-use mathlib.Core.List.{List, [], _∷_, _++_, map}
+use mathlib.Core.List.{List, [], _∷_, map}
 use mathlib.Core.Option.{none, some}
 use mathlib.Core.Logic.{_⊎_, inl, inr}
 use Prim.Native.Nat.{ℕ, suc, _+_, _-_, _<_, _≤_}
@@ -29,7 +29,7 @@ use Rattle.model.proofs.FragmentsRead.{written-cut}
 use Rattle.model.proofs.ZoneDrawn.{long-fit, length-frags}
 use Rattle.model.proofs.ZoneTests.{zone-tests}
 use Rattle.edits.specs.Room.{In}
-use Rattle.edits.proofs.Entries.{in-append, in-map, map-in}
+use Rattle.edits.proofs.Entries.{in-append, in-left, in-right, in-map, map-in}
 use Rattle.edits.proofs.Slices.{Sized, sized-blocks}
 use Rattle.edits.proofs.BlockBits.{alloc-length}
 use Rattle.edits.proofs.ZonePlaces.{zone-bits}
@@ -132,15 +132,6 @@ met-touch at end was (e ∷ es) r a b i j k = go (e .holder) i j (λ w p q. met-
     go (owned id) i j ih = with (not (was && false)) (ih false i j)
 
 -- the zones from z on
-pub in-left : {A : Type 0} (h : A) (xs ys : List A) → In h xs → In h (xs ++ ys)
-in-left h [] ys i = absurd i
-in-left h (x ∷ xs) ys (inl e) = inl e
-in-left h (x ∷ xs) ys (inr i) = inr (in-left h xs ys i)
-
-pub in-right : {A : Type 0} (h : A) (xs ys : List A) → In h ys → In h (xs ++ ys)
-in-right h [] ys i = i
-in-right h (x ∷ xs) ys i = inr (in-right h xs ys i)
-
 abbrev ZonesInRow : Geometry → ℕ → List (List Entry) → Type 0
 ZonesInRow g z [] = Unit {0}
 ZonesInRow g z (es ∷ ess) = InRow (firstBit z) (endBit g) es × ZonesInRow g (suc z) ess

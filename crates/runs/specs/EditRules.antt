@@ -1,9 +1,9 @@
--- What the table of the edits' refusals (`EditTable`) does not say of them: how a list is read, the test behind 12, a claim's need, and that
--- 14 is never told. Assumes nothing.
+-- What the table of the edits' refusals (`EditTable`) does not say of them: how a list is read, the test behind 12, a claim's need, the order in
+-- which a claim tries the zones, and that 14 is never told. Assumes nothing.
 use mathlib.Core.Path.{_≡_}
 use mathlib.Core.Bool.{true}
 use mathlib.Core.List.{List}
-use Prim.Native.Nat.{ℕ, _*_, _%_, _≤_}
+use Prim.Native.Nat.{ℕ, _*_, _%_, _<_, _≤_}
 use lib.ListN.{length}
 use Rattle.bits.specs.Bits.{Bytes}
 use Rattle.geometry.specs.declared.Geometry.{Geometry}
@@ -14,6 +14,7 @@ use Rattle.edits.specs.Judge.{Call, pairsFrom, listFits, need}
 use Rattle.edits.specs.Steps.{outcome}
 use Rattle.edits.specs.Editable.{Editable}
 use Rattle.runs.specs.ListRules.{ListRules}
+use Rattle.runs.specs.ZonesTried.{ZonesTried}
 
 -- "Need = the larger of m and the size rounded up to clusters, in map bits": the least number of map bits that is at least m, in whole
 -- clusters, and has room for the size
@@ -27,6 +28,8 @@ pub record EditRules : Type 0 where
   -- "A list handed in is read to its slice's end."
   pub all-read : (list : List ℕ) → length list % 2 ≡ 0 → numbersOf (pairsFrom list) ≡ list
   pub need-rules : (m : List ℕ) → Editable m → (size : ℕ) → NeedRules (geometryOf m) size
+  -- "tries it, then one below, one above, two below and so on, skipping zones that don't exist"
+  pub zones-tried : (zones p : ℕ) → p < zones → ZonesTried zones p
   -- 12: the test of a list that is handed in passes exactly where it keeps the rules
   pub fits-gives-rules : (m : List ℕ) → Editable m → (id : ℕ) (list : List ℕ) → listFits (geometryOf m) id list ≡ true → ListRules (geometryOf m) id list
   pub rules-give-fits : (m : List ℕ) → Editable m → (id : ℕ) (list : List ℕ) → ListRules (geometryOf m) id list → listFits (geometryOf m) id list ≡ true

@@ -2,6 +2,7 @@
 -- the map reads as, objects as `list` shows them and spans as `free` shows them. Refusals 1 to 7 are `Judged`. Assumes nothing.
 use mathlib.Core.Path.{_≡_}
 use mathlib.Core.List.{List, [], _∷_}
+use mathlib.Core.Logic.{_⊎_}
 use Prim.Native.Nat.{ℕ, _+_, _*_, _<_, _≤_}
 use Rattle.geometry.specs.declared.Geometry.{Geometry}
 use Rattle.geometry.specs.Record.{geometryOf}
@@ -54,9 +55,9 @@ module _ (m : List ℕ) where
   abbrev pub twelve : ℕ → List ℕ → Refusing
   twelve id list = line 12 (ListRules (geometryOf m) id list → ⊥)
 
-  -- "claim of 0 bytes"
-  abbrev pub twelveClaim : ℕ → Refusing
-  twelveClaim size = line 12 (size ≡ 0)
+  -- "claim of 0 bytes", and by R-6 "a parent zone (refusal 12 if not below nzones)"
+  abbrev pub twelveClaim : ℕ → ℕ → Refusing
+  twelveClaim size parent = line 12 ((size ≡ 0) ⊎ ((geometryOf m) .zones ≤ parent))
 
   -- 13: "a listed bit isn't free, or a leftover of 1 to m-1 free bits"
   abbrev pub thirteen : List ℕ → Refusing
@@ -66,7 +67,7 @@ module _ (m : List ℕ) where
   abbrev pub fourteen : Refusing
   fourteen = line 14 ((id : ℕ) → 3 ≤ id → id < (geometryOf m) .ids * (geometryOf m) .zones → NotThere m id → ⊥)
 
-  -- 15: "claim: no hole of length need"
+  -- 15: "claim: no hole of length need", wherever the parent zone is
   abbrev pub fifteen : ℕ → Refusing
   fifteen size = line 15 ((h : Pair) → In h (spansOn m) → h .len < need (geometryOf m) size)
 
@@ -81,9 +82,9 @@ module _ (m : List ℕ) where
   abbrev pub placeLines : ℕ → List ℕ → List Refusing
   placeLines id list = eight id ∷ nine ∷ eleven id ∷ twelve id list ∷ thirteen list ∷ []
 
-  abbrev pub claimLines : ℕ → List Refusing
-  claimLines size = nine ∷ twelveClaim size ∷ fourteen ∷ fifteen size ∷ []
+  abbrev pub claimLines : ℕ → ℕ → List Refusing
+  claimLines size parent = nine ∷ twelveClaim size parent ∷ fourteen ∷ fifteen size ∷ []
 
   -- what a claim that none of these refuses answers: one pair goes to one id, by the rules
-  abbrev pub ClaimTakes : ℕ → Answer Edit → Type 0
-  ClaimTakes size r = (id : ℕ) × (q : Pair) × (r ≡ answered (gives id (q ∷ []))) × ClaimRules m size id q
+  abbrev pub ClaimTakes : ℕ → ℕ → Answer Edit → Type 0
+  ClaimTakes size parent r = (id : ℕ) × (q : Pair) × (r ≡ answered (gives id (q ∷ []))) × ClaimRules m size parent id q

@@ -33,9 +33,9 @@ pub record PlaceTold (m : List ℕ) (id : ℕ) (list : List ℕ) (told : ℕ × 
   pub numbers : told ≡ placeTold (outcome m (place id list))
   pub bytes : after ≡ step m (place id list)
 
-pub record ClaimTold (m : List ℕ) (size : ℕ) (told : ℕ × ℕ × ℕ × ℕ × ℕ) (after : List ℕ) : Type 0 where
-  pub numbers : told ≡ claimTold (outcome m (claim size))
-  pub bytes : after ≡ step m (claim size)
+pub record ClaimTold (m : List ℕ) (size parent : ℕ) (told : ℕ × ℕ × ℕ × ℕ × ℕ) (after : List ℕ) : Type 0 where
+  pub numbers : told ≡ claimTold (outcome m (claim size parent))
+  pub bytes : after ≡ step m (claim size parent)
 
 pub record CopyTold (source target : List ℕ) (told : ℕ × ℕ) (after : List ℕ) : Type 0 where
   pub numbers : told ≡ copyTold (copyJudged source target)

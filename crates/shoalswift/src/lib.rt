@@ -198,19 +198,20 @@ pub extern "C" fn shoalswift_place(map: &mut [u8], id: u32, list: &[u32], zone: 
     }
 }
 
-// Claims room for so many bytes.
+// Claims room for so many bytes near a parent zone.
 #[no_mangle]
 pub extern "C" fn shoalswift_claim(
     map: &mut [u8],
     size: u64,
+    parent: u32,
     id: &mut u32,
     start: &mut u32,
     len: &mut u32,
     zone: &mut u32,
 ) -> u32
-    ensures { λ r. ⌜ ClaimTold (now (map .entry)) size (r, now (zone .exit), now (id .exit), now (start .exit), now (len .exit)) (now (map .exit)) ⌝ }
+    ensures { λ r. ⌜ ClaimTold (now (map .entry)) size parent (r, now (zone .exit), now (id .exit), now (start .exit), now (len .exit)) (now (map .exit)) ⌝ }
 {
-    match claim::claim(map, size) {
+    match claim::claim(map, size, parent) {
         Claimed::Piece {
             id: i,
             start: s,

@@ -230,6 +230,7 @@ fn run_claim(head: &[u8; 32], map: &mut [u8]) {
     let r = shoalswift::shoalswift_claim(
         map,
         long(head, 8),
+        word(head, 4),
         &mut id,
         &mut start,
         &mut len,

@@ -6,7 +6,8 @@
 //! that do nothing else.
 //!
 //! `--quick` makes one round, to see that all of it runs. `--before FILE.so`
-//! measures an earlier build of the product too, and adds a table of the two.
+//! measures an earlier build of the product too, but for its claims, and adds a
+//! table of the two.
 //! `--sweeps` leaves out all tables but the last.
 
 mod discs;
@@ -24,6 +25,7 @@ use std::time::Duration;
 use machine::machine;
 use maps::{sizes, Size, NAMES};
 use product::Calls;
+use reference::case::Call;
 use sides::{sides, Side};
 use table::print_sweeps;
 use timing::{agree, Lowest};
@@ -77,7 +79,7 @@ fn print_calls(before: Option<Calls>, plan: &Plan) -> bool {
     let sizes = sizes();
     let sides: Vec<_> = sizes.iter().map(|size| sides_of(before, size)).collect();
     for (size, sides) in sizes.iter().zip(&sides) {
-        for (name, cases) in NAMES.iter().zip(&size.cases) {
+        for ((name, cases), sides) in NAMES.iter().zip(&size.cases).zip(sides) {
             if !cases.iter().all(|case| agree(sides, case)) {
                 println!("{} zones, {name}: the answers differ", size.zones);
                 return false;
@@ -96,16 +98,20 @@ fn print_calls(before: Option<Calls>, plan: &Plan) -> bool {
     true
 }
 
-/// All who make the calls of a size. An earlier build is none of them where it
-/// refuses the maps with 2, as one from before R-4 of document 02 does those of
-/// 255 zones, and one from before R-12 those of E+ discs.
-fn sides_of(before: Option<Calls>, size: &Size) -> Vec<Side> {
+/// All who make the calls of a size, for each name. An earlier build is none of them
+/// where it refuses the maps with 2, as one from before R-4 of document 02 does those
+/// of 255 zones, and one from before R-12 those of E+ discs. It makes no claims, which
+/// had another signature before R-6.
+fn sides_of(before: Option<Calls>, size: &Size) -> Vec<Vec<Side>> {
     let knows = |calls: &Calls| {
         let check = &size.cases[0][0];
         let answer = calls.call(check, &mut check.map.clone(), &mut [], &mut []);
         answer.number != 2
     };
-    sides(before.filter(knows))
+    let before = before.filter(knows);
+    let of_name = |call| sides(before.filter(|_| call != Call::Claim));
+    let calls = size.cases.iter().map(|cases| cases[0].call);
+    calls.map(of_name).collect()
 }
 
 /// Reads the arguments.
@@ -135,15 +141,16 @@ fn arguments() -> Result<Wanted, String> {
     Ok(wanted)
 }
 
-/// The lowest times by size and call. Each size has its own sides.
-fn measure(sides: &[Vec<Side>], sizes: &[Size], plan: &Plan) -> Vec<Vec<Lowest>> {
+/// The lowest times by size and name. Each has its own sides.
+fn measure(sides: &[Vec<Vec<Side>>], sizes: &[Size], plan: &Plan) -> Vec<Vec<Lowest>> {
     let mut times: Vec<Vec<Lowest>> = Vec::new();
     for (size, sides) in sizes.iter().zip(sides) {
-        times.push(NAMES.map(|_| Lowest::new(sides.len(), size.maps())).into());
+        let lowest = |sides: &Vec<Side>| Lowest::new(sides.len(), size.maps());
+        times.push(sides.iter().map(lowest).collect());
     }
     for _ in 0..plan.passes {
         for ((size, sides), row) in sizes.iter().zip(sides).zip(&mut times) {
-            for (cases, lowest) in size.cases.iter().zip(row) {
+            for ((cases, sides), lowest) in size.cases.iter().zip(sides).zip(row) {
                 lowest.add(sides, cases, plan.time);
             }
         }
@@ -169,17 +176,17 @@ fn print_how(times: &[Vec<Lowest>], plan: &Plan) {
         "Blocks of 1,024 bytes, idlen 15, 1,024 bytes a map bit, 4,128 bits a zone; the last two rows have \
          blocks of 256 bytes and 2,016 bits a zone: the most zones of version 0, and an E+ disc with idlen 19. \
          The object listed, released and placed has two pieces in every zone. sweep_free has a window of \
-         1 MiB. The claim's only hole is the last of the disc; ids begin anew in each zone, and in `packed` \
-         they go up from 3 without a gap."
+         1 MiB. The claim's only hole is the last of the disc, and its parent is zone 0, or in `near` the last \
+         zone; ids begin anew in each zone, and in `packed` they go up from 3 without a gap."
     );
     println!();
     println!("{} The reference has overflow checks.", machine());
     println!();
 }
 
-/// The head of a table whose last columns are the calls.
-fn print_head(first: &[&str]) {
-    let names = [first, &NAMES].concat();
+/// The head of a table whose last columns are calls.
+fn print_head(first: &[&str], names: &[&str]) {
+    let names = [first, names].concat();
     println!("| {} |", names.join(" | "));
     println!("|{}", "---:|".repeat(names.len()));
 }
@@ -191,7 +198,7 @@ fn print_ratio(time: f64, other: f64) {
 fn print_ratios(sizes: &[Size], times: &[Vec<Lowest>]) {
     println!("Microseconds: product / reference = ratio.");
     println!();
-    print_head(&["zones", "map bytes"]);
+    print_head(&["zones", "map bytes"], &NAMES);
     for (size, row) in sizes.iter().zip(times) {
         print!("| {} | {} |", size.zones, size.map_bytes);
         for lowest in row {
@@ -211,7 +218,7 @@ fn print_growth(sizes: &[Size], times: &[Vec<Lowest>]) {
          rows' blocks are a quarter as long, with about half as many fragments."
     );
     println!();
-    print_head(&["zones", "fragments a zone", "used %"]);
+    print_head(&["zones", "fragments a zone", "used %"], &NAMES);
     for (size, row) in sizes.iter().zip(times) {
         let fragments = size.fragments / size.maps() / size.zones;
         let used = size.used_percent();
@@ -231,16 +238,18 @@ fn print_change(sizes: &[Size], times: &[Vec<Lowest>]) {
     println!(
         "Microseconds: after / before = ratio; after is the product, before the earlier build, which was called \
          in the same rounds and gave the same answers and bytes. Maps that it refuses with 2, as more than 127 \
-         zones and E+ discs were once, are left out."
+         zones and E+ discs were once, are left out, and so are claims, which had no parent zone once."
     );
     println!();
-    print_head(&["zones"]);
+    let mut names = NAMES.to_vec();
+    names.retain(|name| !name.starts_with("claim"));
+    print_head(&["zones"], &names);
     for (size, row) in sizes.iter().zip(times) {
         if !row[0].has_before() {
             continue;
         }
         print!("| {} |", size.zones);
-        for lowest in row {
+        for lowest in row.iter().filter(|lowest| lowest.has_before()) {
             print_ratio(lowest.product_microseconds(), lowest.before_microseconds());
         }
         println!();

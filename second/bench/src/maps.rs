@@ -25,7 +25,8 @@ const HOLE: usize = 144;
 /// The last zone ends with a hole longer than all others.
 const LONG_HOLE: usize = 320;
 
-/// Longer than every hole but that one, so that a claim must look everywhere.
+/// Longer than every hole but that one, so that a claim near zone 0 must look
+/// everywhere.
 const CLAIMED_BITS: u64 = 200;
 
 /// The length of object 2's fragment.
@@ -47,12 +48,13 @@ pub const WINDOW: usize = 1 << 20;
 enum Numbers {
     /// From the first number of the zone where they lie.
     ByZone,
-    /// From 3 upward without a gap, as a disc filled by claims has them.
+    /// From 3 upward without a gap, as a disc filled by claims had them before R-6 of
+    /// document 02.
     Packed,
 }
 
 /// The calls measured, in the order of their columns.
-pub const NAMES: [&str; 8] = [
+pub const NAMES: [&str; 9] = [
     "check",
     "list",
     "free",
@@ -60,6 +62,7 @@ pub const NAMES: [&str; 8] = [
     "release",
     "place",
     "claim",
+    "claim, near",
     "claim, packed",
 ];
 
@@ -276,12 +279,17 @@ fn calls(geometry: &Geometry, map: &[u8], packed: &[u8]) -> [Case; NAMES.len()] 
     let mut place = case(Call::Place, &released.map);
     place.list = released.list[..2 * pieces].to_vec();
 
-    let mut claim = case(Call::Claim, map);
-    claim.wide = CLAIMED_BITS * geometry.bytes_per_map_bit;
-    let claimed = claim.run().values[1] as usize;
-    assert_eq!(claimed, geometry.disc_bits() - LONG_HOLE, "another hole");
-    let mut claim_packed = case(Call::Claim, packed);
-    claim_packed.wide = claim.wide;
+    let claim = |map, parent| {
+        let mut claim = case(Call::Claim, map);
+        claim.number = parent;
+        claim.wide = CLAIMED_BITS * geometry.bytes_per_map_bit;
+        let claimed = claim.run().values[1] as usize;
+        assert_eq!(claimed, geometry.disc_bits() - LONG_HOLE, "another hole");
+        claim
+    };
+    // The hole is in the last zone.
+    let claim_near = claim(map, geometry.nzones as u32 - 1);
+    let (claim, claim_packed) = (claim(map, 0), claim(packed, 0));
 
     let (check, list) = (case(Call::Check, map), case(Call::List, map));
     let free = case(Call::Free, map);
@@ -293,6 +301,7 @@ fn calls(geometry: &Geometry, map: &[u8], packed: &[u8]) -> [Case; NAMES.len()] 
         release,
         place,
         claim,
+        claim_near,
         claim_packed,
     ]
 }

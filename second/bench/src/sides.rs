@@ -76,9 +76,8 @@ fn reference(case: &Case, lent: &mut Lent) -> Answer {
         Call::SweepFree => one(read::sweep_free(map, &mut lent.image, wide, fill)),
         Call::Release => one(edit::release(map, id, list)),
         Call::Place => edit::place(map, id, list).map(|_| [0; 3]),
-        Call::Claim => {
-            edit::claim(map, wide).map(|new| [new.id, new.start, new.length].map(u64::from))
-        }
+        Call::Claim => edit::claim(map, wide, case.number)
+            .map(|new| [new.id, new.start, new.length].map(u64::from)),
         Call::Address | Call::SweepObject => unreachable!("not measured"),
         Call::ChooseCopy | Call::CopyOver | Call::CopyAddresses => unreachable!("not measured"),
     };

@@ -1,10 +1,12 @@
 //! E+ maps (R-12 of document 02) of more zones than the generator makes, with a
 //! few calls on each: what is given out is given back, so that every byte must be
-//! as before. Two more are there for the addresses of their copies alone.
+//! as before. One is for claims alone, as its ids go up without a gap, and two
+//! more are there for the addresses of their copies alone.
 
 use reference::case::{Call, Case};
 use reference::generate::{
-    map_of_a_high_copy, map_of_zones, record_of_zones, repair_zone_checks, with_bytes,
+    map_of_a_high_copy, map_of_packed_ids, map_of_zones, record_of_zones, repair_zone_checks,
+    with_bytes,
 };
 use reference::geometry::{DiscRecord, Edition, DISC_RECORD, NZONES_HIGH};
 use reference::map::{check, CheckedMap, Fragment};
@@ -36,6 +38,10 @@ pub fn maps() -> Vec<Named> {
     let most = map_of_zones(&most_zones());
     let one_more = Case::new(Call::Check, &with_a_zone_more(&most));
     assert_eq!(one_more.run().number, 2);
+    let packed = map_of_packed_ids(&record_of_zones(8, 2_000, Edition::EPlus));
+    let mut claims = Vec::new();
+    claimed_and_released(&mut claims, &packed);
+    assert!(claims[0].run().values[0] > 1 << 16);
     let of_255 = map_of_zones(&record_of_zones(8, 255, Edition::E));
     let of_255 = Case::new(Call::CopyAddresses, &of_255);
     let high = Case::new(Call::CopyAddresses, &map_of_a_high_copy());
@@ -44,6 +50,7 @@ pub fn maps() -> Vec<Named> {
         ("the E+ map of 1,000 zones".to_string(), cases(&thousand)),
         ("the E+ map of 20,971 zones".to_string(), cases(&most)),
         ("the E+ map of 20,972 zones".to_string(), vec![one_more]),
+        ("the E+ map of packed ids".to_string(), claims),
         ("the map of 255 zones".to_string(), vec![of_255]),
         ("the E+ map of a high copy".to_string(), vec![high]),
     ]
@@ -129,18 +136,30 @@ fn pieces(checked: &CheckedMap, id: u32) -> Vec<u32> {
     chosen.iter().flat_map(pair).collect()
 }
 
-/// The lowest id is claimed, in the first hole there is, and released.
+/// A claim near the first zone, the middle one and the last, in the first hole there
+/// is, and its release; one that no hole is long enough for, and one near a zone past
+/// the last.
 fn claimed_and_released(cases: &mut Vec<Case>, map: &[u8]) {
-    let mut claim = Case::new(Call::Claim, map);
-    claim.wide = 1;
-    let claimed = claim.run();
-    assert_eq!(claimed.number, 0);
-    let release = numbered(Call::Release, &claimed.map, claimed.values[0] as u32, 2);
-    assert!(release.run().map == map);
-    claim.wide = u64::MAX;
-    let too_large = claim.clone();
-    claim.wide = 1;
-    cases.extend([claim, too_large, release]);
+    let geometry = check(map).expect("a valid map").geometry;
+    let claim = |size, parent| {
+        let mut claim = Case::new(Call::Claim, map);
+        claim.wide = size;
+        claim.number = parent;
+        claim
+    };
+    let nzones = geometry.nzones as u32;
+    let middle = geometry.middle_zone() as u32;
+    for parent in [0, middle, nzones - 1] {
+        let claim = claim(1, parent);
+        let claimed = claim.run();
+        assert_eq!(claimed.number, 0);
+        let release = numbered(Call::Release, &claimed.map, claimed.values[0] as u32, 2);
+        assert!(release.run().map == map);
+        cases.extend([claim, release]);
+    }
+    let refused = [claim(u64::MAX, middle), claim(1, nzones)];
+    assert_eq!(refused.each_ref().map(|case| case.run().number), [15, 12]);
+    cases.extend(refused);
 }
 
 /// The first of two copies has a wrong zone check in its last block; the second is

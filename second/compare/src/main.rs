@@ -11,15 +11,17 @@
 use std::env;
 use std::process::ExitCode;
 
+mod claims;
 mod copies;
 mod large;
 mod program;
 
+use claims::Claims;
 use copies::Copies;
 use product::Told;
 use program::Program;
 use reference::case::{Call, Case, Outcome, CALLS};
-use reference::generate::{play, play_addresses, play_copies, Sizes};
+use reference::generate::{play, play_addresses, play_claims, play_copies, Sizes};
 use reference::geometry::{DiscRecord, LARGEST_MAP};
 use reference::map::{check, only_reserved_bytes_are_wrong, CheckedMap};
 
@@ -169,7 +171,7 @@ fn describe(
 ) -> String {
     let mut text = format!("{of}, call {step} of it: {}\n", case.call.name());
     text += &format!(
-        "  id or n {}, position, first address or size {}, fill {}\n",
+        "  id, n or parent {}, position, first address or size {}, fill {}\n",
         case.number, case.wide, case.fill
     );
     text += &format!(
@@ -225,6 +227,7 @@ struct Tally {
     /// of document 02).
     touching: u64,
     touching_across_zones: u64,
+    claims: Claims,
     copies: Copies,
     last_map: Vec<u8>,
     differences: u64,
@@ -242,6 +245,7 @@ impl Tally {
             above_255_zones: 0,
             touching: 0,
             touching_across_zones: 0,
+            claims: Claims::default(),
             copies: Copies::default(),
             last_map: Vec::new(),
             differences: 0,
@@ -371,6 +375,7 @@ impl Tally {
              {} of them across a zone's end",
             self.touching, self.touching_across_zones
         );
+        self.claims.print();
         self.copies.print();
     }
 
@@ -396,6 +401,7 @@ impl Tally {
             lines.push(format!("no geometry was answered with {number}"));
         }
         lines.extend(self.never_counted());
+        lines.extend(self.claims.complaints());
         lines.extend(self.copies.complaints(&self.compared));
         lines
     }
@@ -465,11 +471,13 @@ fn compare(seeds: std::ops::Range<u64>, program: &mut Option<Program>) -> Tally 
                 tally.count(&case.map, &told);
             }
             tally.compare(&of, step, case, ours);
+            tally.claims.count(case, ours);
             tally.copies.count(case, ours);
             step += 1;
         };
         play(seed, &sizes, &mut visit);
         play_addresses(seed, &sizes, &mut visit);
+        play_claims(seed, &sizes, &mut visit);
         play_copies(seed, &sizes, &mut visit);
     }
     tally

@@ -22,7 +22,8 @@ const UNWRITTEN: u64 = 0xDEAD_BEEF_DEAD_BEEF;
 
 /// The functions of one version of the product that are made on one map. As `LINKED`
 /// is made of those declared, the compiler sees that the types are today's. An
-/// earlier version with other signatures cannot be compared; of address see `opened`.
+/// earlier version with other signatures cannot be compared; of address and claim see
+/// `opened`.
 /// Those on two copies (R-5 of document 02) are none of these, as they are not timed
 /// and earlier versions have none.
 #[derive(Clone, Copy)]
@@ -46,7 +47,16 @@ pub struct Calls {
         unsafe extern "C" fn(*const u8, usize, *mut u8, usize, u64, u8, *mut u64, *mut u32) -> u32,
     release: unsafe extern "C" fn(*mut u8, usize, u32, *mut u32, usize, *mut u64, *mut u32) -> u32,
     place: unsafe extern "C" fn(*mut u8, usize, u32, *const u32, usize, *mut u32) -> u32,
-    claim: unsafe extern "C" fn(*mut u8, usize, u64, *mut u32, *mut u32, *mut u32, *mut u32) -> u32,
+    claim: unsafe extern "C" fn(
+        *mut u8,
+        usize,
+        u64,
+        u32,
+        *mut u32,
+        *mut u32,
+        *mut u32,
+        *mut u32,
+    ) -> u32,
 }
 
 impl Calls {
@@ -71,9 +81,11 @@ impl Calls {
         let (list, list_len) = (list.as_mut_ptr(), list.len());
         let (image, image_len) = (image.as_mut_ptr(), image.len());
         let (wide, fill, id) = (case.wide, case.fill, case.number);
+        let parent = case.number;
         let (mut zone, mut value, mut run) = (UNWRITTEN as u32, UNWRITTEN, UNWRITTEN);
         let (mut new, mut start, mut length) = (zone, zone, zone);
         let (z, v) = (&mut zone, &mut value);
+        let (n, s, l) = (&mut new, &mut start, &mut length);
         // SAFETY: the functions have these types; each pointer and length are a
         // slice's borrowed by this function alone, or point to a local number.
         let number = unsafe {
@@ -90,9 +102,7 @@ impl Calls {
                 }
                 Call::Release => (self.release)(map, map_len, id, list, list_len, v, z),
                 Call::Place => (self.place)(map, map_len, id, list, list_len, z),
-                Call::Claim => {
-                    (self.claim)(map, map_len, wide, &mut new, &mut start, &mut length, z)
-                }
+                Call::Claim => (self.claim)(map, map_len, wide, parent, n, s, l, z),
                 _ => unreachable!("it is made on two copies"),
             }
         };

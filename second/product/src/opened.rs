@@ -30,8 +30,8 @@ impl Calls {
     /// # Safety
     ///
     /// The file is a build of the product whose functions have the signatures
-    /// of today, but for address, which is not looked up. No check could find
-    /// another, so a version with one must not be opened.
+    /// of today, but for address and claim, which are not looked up. No check could
+    /// find another, so a version with one must not be opened.
     pub unsafe fn open(file: &str) -> Result<Calls, String> {
         let library = open(file)?;
         // SAFETY: the signatures are those of today, as the fields' types are.
@@ -45,7 +45,7 @@ impl Calls {
                 sweep_free: find(library, c"shoalswift_sweep_free")?,
                 release: find(library, c"shoalswift_release")?,
                 place: find(library, c"shoalswift_place")?,
-                claim: find(library, c"shoalswift_claim")?,
+                claim: no_claim,
             })
         }
     }
@@ -64,6 +64,22 @@ unsafe extern "C" fn no_address(
     _zone: *mut u32,
 ) -> u32 {
     unreachable!("the address of an opened library is not called")
+}
+
+/// In place of the library's own claim, which nobody calls, as `bench` does not time
+/// it: in a version from before R-6 of document 02 it has no parent zone, and another
+/// signature.
+unsafe extern "C" fn no_claim(
+    _map: *mut u8,
+    _map_len: usize,
+    _size: u64,
+    _parent: u32,
+    _id: *mut u32,
+    _start: *mut u32,
+    _length: *mut u32,
+    _zone: *mut u32,
+) -> u32 {
+    unreachable!("the claim of an opened library is not called")
 }
 
 fn open(file: &str) -> Result<*mut c_void, String> {

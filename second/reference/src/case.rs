@@ -119,7 +119,7 @@ impl Call {
 pub struct Case {
     pub call: Call,
     pub fill: u8,
-    /// The id, or an internal number n.
+    /// The id, an internal number n, or a claim's parent zone.
     pub number: u32,
     /// The position, first disc address or size.
     pub wide: u64,
@@ -187,6 +187,7 @@ impl Case {
         image: &mut [u8],
     ) -> Result<Vec<u64>, Refusal> {
         let (id, wide, fill) = (self.number, self.wide, self.fill);
+        let parent = self.number;
         let one = |answer: Result<u64, Refusal>| answer.map(|value| vec![value]);
         match self.call {
             Call::Check => map::check(map).map(|_| vec![]),
@@ -199,7 +200,7 @@ impl Case {
             Call::SweepFree => one(read::sweep_free(map, image, wide, fill)),
             Call::Release => one(edit::release(map, id, list)),
             Call::Place => edit::place(map, id, list).map(|_| vec![]),
-            Call::Claim => edit::claim(map, wide)
+            Call::Claim => edit::claim(map, wide, parent)
                 .map(|new| [new.id, new.start, new.length].map(u64::from).to_vec()),
             Call::ChooseCopy => unreachable!("it has a value where it is refused"),
             Call::CopyOver => copies::copy_over(map, image).map(|_| vec![]),

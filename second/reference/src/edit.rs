@@ -1,5 +1,6 @@
 //! The edits: release, place and claim (document 01, "The calls", and
-//! "Zone check and cross check" for the bytes they write).
+//! "Zone check and cross check" for the bytes they write; for claim R-6 of document
+//! 02 too).
 
 use std::collections::BTreeSet;
 
@@ -48,28 +49,21 @@ pub fn place(map: &mut [u8], id: u32, list: &[u32]) -> Result<(), Refusal> {
     take(map, &checked, &pieces)
 }
 
-/// Gives room for a size in bytes to the lowest unused id.
-pub fn claim(map: &mut [u8], size: u64) -> Result<Claimed, Refusal> {
+/// Gives room for a size in bytes, near a parent zone, to an unused id (R-6 of
+/// document 02).
+pub fn claim(map: &mut [u8], size: u64, parent: u32) -> Result<Claimed, Refusal> {
     let checked = check(map)?;
     no_free_touch(&checked)?;
-    if size == 0 {
+    let geometry = &checked.geometry;
+    if size == 0 || parent as usize >= geometry.nzones {
         return Err(Refusal::plain(12));
     }
-    let geometry = &checked.geometry;
 
-    let id = lowest_unused_id(&checked).ok_or(Refusal::plain(14))?;
+    let used = used_ids(&checked);
+    let lowest = lowest_unused_id(geometry, &used).ok_or(Refusal::plain(14))?;
 
-    // The size rounded up to clusters, in map bits, and at least m.
-    let cluster_bytes = geometry.cluster_bits as u128 * geometry.bytes_per_map_bit as u128;
-    let clusters = (size as u128 + cluster_bytes - 1) / cluster_bytes;
-    let rounded = clusters * geometry.cluster_bits as u128;
-    let need = rounded.max(geometry.shortest_fragment as u128);
-
-    let holes = checked.free();
-    let hole = match holes.iter().find(|hole| hole.length as u128 >= need) {
-        Some(hole) => hole,
-        None => return Err(Refusal::plain(15)),
-    };
+    let need = need(geometry, size);
+    let hole = hole_near(&checked, need, parent as usize).ok_or(Refusal::plain(15))?;
     // No longer than the hole, so it fits.
     let need = need as usize;
     let remaining = hole.length - need;
@@ -78,6 +72,8 @@ pub fn claim(map: &mut [u8], size: u64) -> Result<Claimed, Refusal> {
     } else {
         need
     };
+    // "and only if none is left the lowest unused from 3".
+    let id = lowest_unused_id_of(geometry, &used, hole.zone).unwrap_or(lowest);
     let piece = Fragment {
         zone: hole.zone,
         start: hole.start,
@@ -89,16 +85,50 @@ pub fn claim(map: &mut [u8], size: u64) -> Result<Claimed, Refusal> {
     Ok(Claimed { id, start, length })
 }
 
-/// The lowest id from 3 that is not on the map. Those that are there are gathered
-/// first, as an E+ disc may have up to 2^19 of them.
-fn lowest_unused_id(checked: &CheckedMap) -> Option<u32> {
+/// The size of a claim rounded up to clusters, in map bits, and at least m.
+pub fn need(geometry: &Geometry, size: u64) -> u128 {
+    let cluster_bytes = geometry.cluster_bits as u128 * geometry.bytes_per_map_bit as u128;
+    let clusters = (size as u128 + cluster_bytes - 1) / cluster_bytes;
+    let rounded = clusters * geometry.cluster_bits as u128;
+    rounded.max(geometry.shortest_fragment as u128)
+}
+
+/// The first hole of length at least need: zones in the order that a parent zone
+/// gives, in each of them holes ascending.
+fn hole_near(checked: &CheckedMap, need: u128, parent: usize) -> Option<Fragment> {
+    let is_hole =
+        |fragment: &&Fragment| fragment.owner == Owner::Free && fragment.length as u128 >= need;
+    for zone in checked.geometry.zones_near(parent) {
+        if let Some(hole) = checked.zones[zone].iter().find(is_hole) {
+            return Some(*hole);
+        }
+    }
+    None
+}
+
+/// The ids on the map. They are gathered once, as an E+ disc may have up to 2^19 of
+/// them.
+fn used_ids(checked: &CheckedMap) -> BTreeSet<u32> {
     let mut used = BTreeSet::new();
     for fragment in checked.fragments() {
         if let Owner::Object(id) = fragment.owner {
             used.insert(id);
         }
     }
-    (3..checked.geometry.ids() as u32).find(|id| !used.contains(id))
+    used
+}
+
+/// "the lowest unused from 3".
+fn lowest_unused_id(geometry: &Geometry, used: &BTreeSet<u32>) -> Option<u32> {
+    (3..geometry.ids() as u32).find(|id| !used.contains(id))
+}
+
+/// "the lowest unused one from 3 whose start zone is the chosen zone" (R-6 of
+/// document 02), which is that of the hole; none where all of them are used.
+fn lowest_unused_id_of(geometry: &Geometry, used: &BTreeSet<u32>, zone: usize) -> Option<u32> {
+    (3..geometry.ids() as u32)
+        .filter(|id| geometry.start_zone(*id) == Ok(zone))
+        .find(|id| !used.contains(id))
 }
 
 /// Refusal 9: two free fragments of a zone touch.

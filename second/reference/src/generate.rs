@@ -1,6 +1,6 @@
 //! A deterministic generator: maps over all geometries of document 01, damage
-//! to them, arguments for each call, runs of calls, and pairs of copies. A seed
-//! decides all.
+//! to them, arguments for each call, runs of calls, claims on crowded maps, and pairs
+//! of copies. A seed decides all.
 
 use std::ops::Range;
 
@@ -1135,6 +1135,22 @@ fn some_size(rng: &mut Rng, checked: &CheckedMap) -> u64 {
     }
 }
 
+/// A parent zone for a claim (R-6 of document 02): mostly one of the disc, and of
+/// these 0, the last, the middle or any; else one past the disc, or one of which only
+/// the low bits are on it.
+fn some_parent(rng: &mut Rng, geometry: &Geometry) -> u32 {
+    let nzones = geometry.nzones as u32;
+    let any = rng.below(geometry.nzones) as u32;
+    match rng.below(24) {
+        0..=3 => 0,
+        4..=7 => nzones - 1,
+        8..=10 => geometry.middle_zone() as u32,
+        11..=21 => any,
+        22 => rng.pick(&[nzones, nzones + 1, u32::MAX]),
+        _ => any | 1 << rng.pick(&[8, 16, 24, 31]),
+    }
+}
+
 /// Lists that earlier calls answered, with the id they were answered for.
 pub type Memory = Vec<(u32, Vec<u32>)>;
 
@@ -1228,7 +1244,12 @@ pub fn arguments(rng: &mut Rng, call: Call, map: &[u8], sizes: &Sizes, memory: &
             }
             case.list.truncate(sizes.list);
         }
-        Call::Claim => case.wide = some_size(rng, &checked),
+        Call::Claim => {
+            // The sizes, and all that comes after them, do not depend on it.
+            let mut aside = rng.aside();
+            case.wide = some_size(rng, &checked);
+            case.number = some_parent(&mut aside, &checked.geometry);
+        }
         Call::ChooseCopy | Call::CopyOver | Call::CopyAddresses => {
             unreachable!("copies are made in pairs")
         }
@@ -1394,6 +1415,126 @@ fn play_run(
         }
         map = outcome.map;
     }
+}
+
+// ----------------------------------------------------- claims on crowded maps
+
+/// Plays claims of one seed, beside those of `play`: a run of them on a map on which
+/// one zone's ids are used up, or nearly, with a release now and then (R-6 of document
+/// 02).
+pub fn play_claims(seed: u64, sizes: &Sizes, visit: &mut dyn FnMut(&Case, &Outcome)) {
+    // Not the map that `play` makes.
+    let mut rng = Rng::new(Rng::new(seed).word());
+    let rng = &mut rng;
+    let record = record_of_several_zones(rng);
+    let mut map = crowded_map(rng, &record);
+    for _ in 0..rng.between(2, 6) {
+        let call = rng.pick(&[Call::Claim, Call::Claim, Call::Claim, Call::Release]);
+        let case = arguments(rng, call, &map, sizes, &Memory::new());
+        let outcome = case.run();
+        visit(&case, &outcome);
+        map = outcome.map;
+    }
+}
+
+/// A disc record of several zones, mostly short ones of few ids. The disc ends where
+/// the map does.
+fn record_of_several_zones(rng: &mut Rng) -> DiscRecord {
+    let edition = rng.pick(&[Edition::E, Edition::E, Edition::EPlus]);
+    let log2secsize = rng.pick(&[8usize, 8, 8, 8, 8, 8, 8, 8, 9, 10]);
+    let idlen = rng.between(log2secsize + 3, edition.longest_id() as usize);
+    let log2bpmb = rng.between(7, 12);
+    let k = 1 << log2secsize.saturating_sub(log2bpmb);
+    let whole_block = 8 << log2secsize;
+    let shortest = ZONE_0_SHORTFALL + (idlen + 1).div_ceil(k) * k;
+    let zone_bits = match rng.below(10) {
+        0 => whole_block - 32,
+        _ => shortest + k * rng.below(100),
+    };
+    let nzones = match rng.below(20) {
+        0 => rng.between(10, 40),
+        _ => rng.between(2, 9),
+    };
+    let nzones = nzones.min((1 << idlen) / (zone_bits / (idlen + 1)));
+    DiscRecord {
+        log2secsize: log2secsize as u8,
+        idlen: idlen as u8,
+        log2bpmb: log2bpmb as u8,
+        nzones: nzones as u16,
+        zone_spare: (whole_block - zone_bits) as u16,
+        disc_size: ((nzones * zone_bits - ZONE_0_SHORTFALL) << log2bpmb) as u32,
+        size_high: 0,
+        version: edition.version(),
+    }
+}
+
+/// A map of short fragments. The ids of one zone are used, all of them or all but a
+/// few, wherever their fragments lie; the others go up from 3, or are any. Some zones
+/// have holes, of up to four fragments, others none.
+fn crowded_map(rng: &mut Rng, record: &DiscRecord) -> Vec<u8> {
+    let geometry = Geometry::accept(record).expect("a record inside its ranges");
+    let ids = geometry.ids() as u32;
+    let mut zones: Vec<_> = (0..geometry.nzones)
+        .map(|zone| crowded_zone(rng, &geometry, zone))
+        .collect();
+
+    // The owned fragments, in any order.
+    let mut owned: Vec<&mut u32> = Vec::new();
+    for (owner, _) in zones.iter_mut().flatten() {
+        match owner {
+            Owner::Object(2) | Owner::Free => {}
+            Owner::Object(id) => owned.push(id),
+        }
+    }
+    for index in 0..owned.len() {
+        let other = rng.between(index, owned.len() - 1);
+        owned.swap(index, other);
+    }
+
+    let used_up = rng.below(geometry.nzones);
+    let mut its_ids: Vec<u32> = (3..ids)
+        .filter(|id| geometry.start_zone(*id) == Ok(used_up))
+        .collect();
+    for _ in 0..rng.pick(&[0, 0, 1, 3]) {
+        // Mostly the last one or the first.
+        let any = rng.below(its_ids.len());
+        let left = rng.pick(&[0, its_ids.len() - 1, its_ids.len() - 1, any]);
+        its_ids.remove(left);
+    }
+    let mut its_ids = its_ids.into_iter();
+    let mut next = 3;
+    for id in owned {
+        *id = its_ids.next().unwrap_or_else(|| {
+            next += 1;
+            match rng.below(3) {
+                0 => rng.between(3, geometry.ids() - 1) as u32,
+                _ => (next - 1).min(ids - 1),
+            }
+        });
+    }
+    build(record, &zones)
+}
+
+/// Owners and lengths of a crowded zone, with no ids as yet but for object 2.
+fn crowded_zone(rng: &mut Rng, geometry: &Geometry, zone: usize) -> Vec<(Owner, usize)> {
+    let bits = geometry.end_block_bit() - geometry.first_block_bit(zone);
+    let m = geometry.shortest_fragment;
+    let free_percent = rng.pick(&[0, 0, 5, 20, 50]);
+    let mut parts: Vec<(Owner, usize)> = Vec::new();
+    let mut left = bits;
+    while left > 0 {
+        let length = if left >= 2 * m { m } else { left };
+        left -= length;
+        let hole = rng.percent(free_percent);
+        match parts.last_mut() {
+            None if zone == geometry.middle_zone() => parts.push((Owner::Object(2), length)),
+            Some((Owner::Free, before)) if *before < 4 * m && rng.percent(60) => *before += length,
+            Some((Owner::Free, _)) => parts.push((Owner::Object(3), length)),
+            _ if hole => parts.push((Owner::Free, length)),
+            _ => parts.push((Owner::Object(3), length)),
+        }
+    }
+    parts
 }
 
 // -------------------------------------------------------------------- copies
@@ -1647,6 +1788,34 @@ pub fn map_of_zones(record: &DiscRecord) -> Vec<u8> {
         parts
     };
     let zones: Vec<_> = (0..geometry.nzones).map(zone).collect();
+    build(record, &zones)
+}
+
+/// A map of shortest fragments whose ids go up from 3 without a gap, with a hole at the
+/// disc's start. Where there are several zones all ids of the first are used, and the
+/// lowest one left is as high as it can be.
+pub fn map_of_packed_ids(record: &DiscRecord) -> Vec<u8> {
+    let geometry = Geometry::accept(record).expect("a record inside its ranges");
+    let m = geometry.shortest_fragment;
+    let mut hole = Some(Owner::Free);
+    let mut ids = 3..;
+    let mut zones = Vec::new();
+    for zone in 0..geometry.nzones {
+        let mut left = geometry.end_block_bit() - geometry.first_block_bit(zone);
+        let mut parts = Vec::new();
+        while left > 0 {
+            let length = if left >= 2 * m { m } else { left };
+            let owner = if parts.is_empty() && zone == geometry.middle_zone() {
+                Owner::Object(2)
+            } else {
+                let id = || Owner::Object(ids.next().expect("ids without end"));
+                hole.take().unwrap_or_else(id)
+            };
+            parts.push((owner, length));
+            left -= length;
+        }
+        zones.push(parts);
+    }
     build(record, &zones)
 }
 

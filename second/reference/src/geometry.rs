@@ -312,4 +312,20 @@ impl Geometry {
         let start = self.start_zone(id)?;
         Ok((start..self.nzones).chain(0..start).collect())
     }
+
+    /// All zones in the order in which a claim with a parent zone tries them: "tries
+    /// it, then one below, one above, two below and so on, skipping zones that don't
+    /// exist" (R-6 of document 02).
+    pub fn zones_near(&self, parent: usize) -> Vec<usize> {
+        let mut zones = vec![parent];
+        for distance in 1..self.nzones {
+            if distance <= parent {
+                zones.push(parent - distance);
+            }
+            if parent + distance < self.nzones {
+                zones.push(parent + distance);
+            }
+        }
+        zones
+    }
 }

@@ -76,9 +76,10 @@ fn a_place_5() {
     assert_eq!(map, map_b());
 }
 
+/// 'The claim examples read "parent zone 0"' (R-6 of document 02).
 #[test]
 fn a_claim() {
-    let claimed = |size: u64| claim(&mut map_a(), size);
+    let claimed = |size: u64| claim(&mut map_a(), size, 0);
     let given = |start: u32, length: u32| {
         Ok(Claimed {
             id: 3,
@@ -93,6 +94,9 @@ fn a_claim() {
     assert_eq!(claimed(1_560_577), Err(PLAIN(15)));
     assert_eq!(claimed(0), Err(PLAIN(12)));
     assert_eq!(claimed(u64::MAX), Err(PLAIN(15)));
+    for parent in [1, 256, u32::MAX] {
+        assert_eq!(claim(&mut map_a(), 1, parent), Err(PLAIN(12)));
+    }
 }
 
 /// "the address examples gain this number: for map B, 0x000503 at 0 has 19,968" (R-11

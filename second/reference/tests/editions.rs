@@ -288,9 +288,14 @@ fn undo_on_1000_zones() {
     let crosses: Vec<u8> = (0..1_000).map(|zone| map[256 * zone + 3]).collect();
     assert_eq!(crosses[..4], [254, 2, 3, 1]);
     assert_eq!(crosses[998..], [1, 0]);
-    let claimed = claim(&mut map, 1).unwrap();
-    assert_eq!(claimed.id, 3);
-    release(&mut map, 3, &mut entries).unwrap();
+    // The first id of the parent zone (R-6 of document 02), which has a hole.
+    for (parent, id) in [(0, 3), (256, 25_600), (999, 99_900)] {
+        let claimed = claim(&mut map, 1, parent).unwrap();
+        assert_eq!(claimed.id, id);
+    }
+    for id in [99_900, 25_600, 3] {
+        release(&mut map, id, &mut entries).unwrap();
+    }
     release(&mut map, 90_001, &mut entries).unwrap();
     assert!(map == before);
     for id in [7, 25_607, 50_007, 99_907] {

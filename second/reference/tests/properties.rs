@@ -5,8 +5,8 @@ use std::collections::BTreeMap;
 use reference::case::{Call, Case, Outcome, CALLS};
 use reference::edit::{claim, place, release};
 use reference::generate::{
-    any_map, arguments, disc_record, map_a, map_b, objects, play, play_copies, valid_map, Memory,
-    Rng, Sizes,
+    any_map, arguments, disc_record, map_a, map_b, objects, play, play_claims, play_copies,
+    valid_map, Memory, Rng, Sizes,
 };
 use reference::geometry::{DiscRecord, Edition, Geometry, LARGEST_MAP};
 use reference::map::{check, zone_check_by_columns, zone_check_by_words};
@@ -165,7 +165,7 @@ fn place_or_claim_then_release_restores_every_byte() {
                     Err(_) => continue,
                 }
             } else {
-                match claim(&mut map, case.wide) {
+                match claim(&mut map, case.wide, case.number) {
                     Ok(claimed) => (claimed.id, vec![claimed.start, claimed.length]),
                     Err(_) => continue,
                 }
@@ -234,6 +234,7 @@ fn refused_calls_change_nothing_and_every_refusal_is_reached() {
     };
     for seed in 0..6_000 {
         play(seed, &SIZES, &mut see);
+        play_claims(seed, &SIZES, &mut see);
         play_copies(seed, &SIZES, &mut see);
     }
     for call in CALLS {
@@ -392,4 +393,12 @@ fn stored_form_of_a_case() {
     assert_eq!(case.line(&case.run()), "address 0 0 12800 19968");
     case.wide = 19_968;
     assert_eq!(case.line(&case.run()), "address 16 0 0 0");
+
+    // The parent zone where other calls have their id (R-6 of document 02).
+    let mut case = Case::new(Call::Claim, &map_a());
+    case.wide = 1;
+    assert!(case.line(&case.run()).starts_with("claim 0 0 3 12 12 map "));
+    case.number = 1;
+    assert_eq!(case.bytes()[4..8], [1, 0, 0, 0]);
+    assert_eq!(case.line(&case.run()), "claim 12 0 0 0 0 map");
 }

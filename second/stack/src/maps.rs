@@ -2,7 +2,7 @@
 //! can be. E+ discs (R-12 of document 02) have longer ids and more zones.
 
 use reference::case::{Call, Case, CALLS_ON_ONE_MAP};
-use reference::generate::{build, repair_zone_checks};
+use reference::generate::{build, map_of_packed_ids, repair_zone_checks};
 use reference::geometry::{DiscRecord, Edition, Geometry};
 use reference::map::Owner;
 
@@ -123,7 +123,18 @@ fn zone(geometry: &Geometry, zone: usize, layout: Layout) -> Vec<(Owner, usize)>
     parts
 }
 
-/// Every call of document 01 on one map; the place and a claim on what the release
+/// Claims of a size (R-6 of document 02): near the first zone, the middle one and the
+/// last.
+fn claims(geometry: &Geometry, map: &[u8], size: u64) -> [Case; 3] {
+    [0, geometry.middle_zone(), geometry.nzones - 1].map(|parent| {
+        let mut case = Case::new(Call::Claim, map);
+        case.number = parent as u32;
+        case.wide = size;
+        case
+    })
+}
+
+/// Every call of document 01 on one map; the place and some claims on what the release
 /// leaves.
 fn calls(geometry: &Geometry, map: &[u8]) -> Vec<Case> {
     let room = vec![0; 2 * geometry.ids()];
@@ -143,11 +154,12 @@ fn calls(geometry: &Geometry, map: &[u8]) -> Vec<Case> {
 
     let mut cases: Vec<Case> = CALLS_ON_ONE_MAP
         .iter()
-        .filter(|call| **call != Call::Place)
+        .filter(|call| !matches!(call, Call::Place | Call::Claim))
         .map(|call| case(*call, map, 1))
         .collect();
+    cases.extend(claims(geometry, map, 1));
     // No hole is as long as the disc, so all are looked at.
-    cases.push(case(Call::Claim, map, geometry.disc_size));
+    cases.extend(claims(geometry, map, geometry.disc_size));
 
     let released = case(Call::Release, map, 0).run();
     assert_eq!(released.number, 0, "the object is released");
@@ -155,8 +167,19 @@ fn calls(geometry: &Geometry, map: &[u8]) -> Vec<Case> {
     place.list = released.list[..2 * released.values[0] as usize].to_vec();
     assert_eq!(place.run().map, map, "and placed again");
     cases.push(place);
-    cases.push(case(Call::Claim, &released.map, 1));
+    cases.extend(claims(geometry, &released.map, 1));
     cases
+}
+
+/// Claims that have to look for an id from 3 up to the last.
+fn claims_on_packed(record: &DiscRecord, geometry: &Geometry) -> Vec<Case> {
+    let cases = claims(geometry, &map_of_packed_ids(record), 1);
+    for case in &cases {
+        let id = case.run().values[0] as usize;
+        let of_zone_0 = id < geometry.ids_per_zone;
+        assert_eq!(of_zone_0, geometry.nzones == 1, "an id of another zone");
+    }
+    cases.into()
 }
 
 /// The calls on two copies of a map (R-5 of document 02). The first is chosen; or the
@@ -192,7 +215,34 @@ pub fn subjects() -> Vec<Subject> {
         }
     }
     subjects.extend(on_map(&most_ids(), LAYOUTS[2]));
+    for record in records().into_iter().chain([most_ids()]) {
+        subjects.extend(on_packed(&record));
+    }
     subjects
+}
+
+/// What a map is like.
+fn title(geometry: &Geometry, who: &str) -> String {
+    let edition = match geometry.edition {
+        Edition::E => "",
+        Edition::EPlus => "E+, ",
+    };
+    format!(
+        "{edition}blocks of {} bytes, idlen {}, zones: {}; {who}",
+        geometry.sector_size, geometry.idlen, geometry.nzones
+    )
+}
+
+/// Claims where the ids go up without a gap.
+fn on_packed(record: &DiscRecord) -> Vec<Subject> {
+    let geometry = Geometry::accept(record).expect("a record inside its ranges");
+    let on = title(&geometry, "ids without a gap");
+    let subject = |case| Subject {
+        on: on.clone(),
+        case,
+    };
+    let cases = claims_on_packed(record, &geometry);
+    cases.into_iter().map(subject).collect()
 }
 
 /// Every call on the map with a layout.
@@ -201,14 +251,7 @@ fn on_map(record: &DiscRecord, (who, layout): (&str, Layout)) -> Vec<Subject> {
     let zones: Vec<_> = (0..geometry.nzones)
         .map(|index| zone(&geometry, index, layout))
         .collect();
-    let edition = match geometry.edition {
-        Edition::E => "",
-        Edition::EPlus => "E+, ",
-    };
-    let on = format!(
-        "{edition}blocks of {} bytes, idlen {}, zones: {}; {who}",
-        geometry.sector_size, geometry.idlen, geometry.nzones
-    );
+    let on = title(&geometry, who);
     let map = build(record, &zones);
     let mut cases = calls(&geometry, &map);
     cases.extend(calls_on_copies(&geometry, &map));

@@ -91,7 +91,7 @@ returns c = record {
     refused-told = λ n z e. (p .numbers ∙ ap placeTold e, p .bytes ∙ ap (bytesAfter m) e);
     accepted-told = λ k e. p .numbers ∙ ap placeTold e;
   };
-  claims = λ m size r after p. record {
+  claims = λ m size parent r after p. record {
     refused-told = λ n z e. (p .numbers ∙ ap claimTold e, p .bytes ∙ ap (bytesAfter m) e);
     accepted-told = λ id q e. p .numbers ∙ ap claimTold e;
   };

@@ -5,7 +5,7 @@ use Prim.Native.Nat.{ℕ}
 use native.Mathlib.Omega.{arith}
 use lib.ListN.{getD}
 use Rattle.checks.specs.Words.{zoneCheck, wordsOf, total}
-use Rattle.checks.specs.Maps.{mapA, mapB}
+use Rattle.checks.specs.Maps.{mapA, mapB, mapD}
 use Rattle.geometry.specs.declared.Geometry.{Geometry}
 use Rattle.geometry.specs.declared.Refusal.{Refusal}
 use Rattle.geometry.specs.declared.DiscBit.{DiscBit}
@@ -55,13 +55,18 @@ four = 1 ∷ 1 ∷ 1 ∷ 1 ∷ []
 abbrev lent : List ℕ
 lent = 9 ∷ 9 ∷ []
 
--- what is told of two copies, and the first byte of one
+-- what is told of two copies
 abbrev which : ℕ × ℕ × ℕ × ℕ → ℕ
 which n = n .2
 
 abbrev equal : ℕ × ℕ × ℕ × ℕ → ℕ
 equal n = n .3
 
+-- the id that a claim tells
+abbrev new : ℕ × ℕ × ℕ × ℕ × ℕ → ℕ
+new n = n .2
+
+-- the first byte of a copy
 abbrev byte : List ℕ → ℕ
 byte l = getD l 0 0
 
@@ -111,10 +116,11 @@ returns c =
       };
       place-edits-nothing = λ h. let e : _≡_ {A = ℕ} 199 40 = ap (λ (l : List ℕ). getD l 0 0) (h mapA (5, 12 ∷ 20 ∷ []) .1 .bytes) in omega arith;
       claim = record {
-        refuses = λ h. piece-refused (sym (h mapA 20480 .2 .answer));
-        one-answer = λ h. let k = h 20480 .1 in piece-refused (sym (k mapA .1 .answer) ∙ k [] .1 .answer);
+        refuses = λ h. piece-refused (sym (h mapA (20480, 0) .2 .answer));
+        one-answer = λ h. let k = h (20480, 0) .1 in piece-refused (sym (k mapA .1 .answer) ∙ k [] .1 .answer);
       };
-      claim-edits-nothing = λ h. let e : _≡_ {A = ℕ} 199 8 = ap (λ (l : List ℕ). getD l 0 0) (h mapA 20480 .1 .bytes) in omega arith;
+      claim-edits-nothing = λ h. let e : _≡_ {A = ℕ} 199 8 = ap (λ (l : List ℕ). getD l 0 0) (h mapA (20480, 0) .1 .bytes) in omega arith;
+      claim-by-size = λ h. let k = h mapD 1 .2 in let e : _≡_ {A = ℕ} 3 168 = sym (ap new (k 0 .numbers)) ∙ ap new (k 1 .numbers) in omega arith;
       choose = record {
         refuses = λ h. let e : _≡_ {A = ℕ} 0 1 = ap which (h mapA [] .2 .numbers) in omega arith;
         one-answer = λ h. let k = h [] .1 in let e : _≡_ {A = ℕ} 1 0 = sym (ap which (k mapA .1 .numbers)) ∙ ap which (k [] .1 .numbers) in omega arith;

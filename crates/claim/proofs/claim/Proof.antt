@@ -17,7 +17,7 @@ returns c =
     let d = c .before in
     let h = d .before .before in
     let s = h .before .before .before in
-    check-refuses (s .args .map .now) (s .args .size) (d .r .given .0 .0) (sym (h .check .ensures .answer) ∙ d .r .given .1)
+    check-refuses (s .args .map .now) (s .args .size) (s .args .parent) (d .r .given .0 .0) (sym (h .check .ensures .answer) ∙ d .r .given .1)
 
 pub claim-spec : {M : Type 1} → statement M
 claim-spec =

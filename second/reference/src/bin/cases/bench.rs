@@ -47,7 +47,7 @@ fn place_5(cases: &mut Cases) {
     }
 }
 
-/// "A, claim".
+/// "A, claim": 'The claim examples read "parent zone 0"' (R-6 of document 02).
 fn claims(cases: &mut Cases) {
     let a = map_a();
     for (size, length) in [
@@ -56,9 +56,9 @@ fn claims(cases: &mut Cases) {
         (1_548_289, 1_524),
         (1_560_576, 1_524),
     ] {
-        cases.claim(&a, size).answers(&[3, 12, length]);
+        cases.claim(&a, size, 0).answers(&[3, 12, length]);
     }
-    cases.claim(&a, 1_560_577).gives(15);
+    cases.claim(&a, 1_560_577, 0).gives(15);
 }
 
 /// "B, address", with the run that R-11 of document 02 adds: "for map B, 0x000503
@@ -106,9 +106,9 @@ fn object_690(cases: &mut Cases) {
     cases.list(&map, 2, 4).done();
     cases.free(&map, 24).done();
     cases.free(&map, 13).gives(17);
-    cases.claim(&map, 1).answers(&[4, 62, 12]);
-    let in_zone_1 = [4, first(1) as u64, 1_363];
-    cases.claim(&map, 1_363 * 1_024).answers(&in_zone_1);
+    cases.claim(&map, 1, 0).answers(&[4, 62, 12]);
+    let in_zone_1 = [168, first(1) as u64, 1_363];
+    cases.claim(&map, 1_363 * 1_024, 0).answers(&in_zone_1);
     cases.release(&map, 7, 2).done();
     cases.release(&map, 3, 2).done();
 }
@@ -129,8 +129,8 @@ fn object_690_released(cases: &mut Cases) {
     rotated.rotate_left(4);
     cases.place(&released, 690, &rotated).gives(12);
     cases.place(&map, 690, &pairs).gives(11);
-    let in_zone_1 = [4, first(1) as u64, 2_000];
-    cases.claim(&released, 2_000 * 1_024).answers(&in_zone_1);
+    let in_zone_1 = [168, first(1) as u64, 2_000];
+    cases.claim(&released, 2_000 * 1_024, 0).answers(&in_zone_1);
 }
 
 /// "Zones 1,4 change by 1,1; zones 0,2,3,6,7 by 1,2,3,1,1": placed, released
@@ -150,7 +150,7 @@ fn cross_check_changes(cases: &mut Cases) {
             .collect();
         let placed = cases.place(&map, 3, &list).done();
         assert_eq!(cases.release(&placed, 3, 16).pairs(&list), map);
-        cases.claim(&placed, 12 * 1_024 + 1).done();
+        cases.claim(&placed, 12 * 1_024 + 1, 0).done();
     }
 }
 
@@ -180,9 +180,9 @@ fn floppy_edits(cases: &mut Cases) {
         (6_336 * 128, 6_336),
         (6_336 * 128 + 1, 6_352),
     ] {
-        cases.claim(&map, size).answers(&[3, 48, length]);
+        cases.claim(&map, size, 0).answers(&[3, 48, length]);
     }
-    cases.claim(&map, 6_352 * 128 + 1).gives(15);
+    cases.claim(&map, 6_352 * 128 + 1, 0).gives(15);
     for (pair, number) in [
         ([48, 16], 0),
         ([52, 16], 12),

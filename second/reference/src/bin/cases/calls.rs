@@ -87,9 +87,10 @@ impl Cases {
         self.add(case)
     }
 
-    pub fn claim(&mut self, map: &[u8], size: u64) -> Answer {
+    pub fn claim(&mut self, map: &[u8], size: u64, parent: u32) -> Answer {
         let mut case = Case::new(Call::Claim, map);
         case.wide = size;
+        case.number = parent;
         self.add(case)
     }
 

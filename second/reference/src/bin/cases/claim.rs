@@ -1,4 +1,6 @@
-//! Document 01, "Claim": need, the hole, the id, refusals 12 and 15.
+//! Document 01, "Claim": need, the hole, the id, refusals 12 and 15. 'The claim
+//! examples read "parent zone 0"' (R-6 of document 02), so zones are tried from 0 up
+//! here; other parents are in `parents`.
 
 use reference::generate::{build, map_a};
 use reference::geometry::DiscRecord;
@@ -54,7 +56,7 @@ fn need_in_map_bits(cases: &mut Cases) {
     };
     let map = build(&record, &[vec![object(2, 12), free(1_524)]]);
     for (size, length) in [(12 * 4_096, 12), (12 * 4_096 + 1, 13)] {
-        cases.claim(&map, size).answers(&[3, 12, length]);
+        cases.claim(&map, size, 0).answers(&[3, 12, length]);
     }
 }
 
@@ -70,23 +72,23 @@ fn need_in_clusters(cases: &mut Cases) {
         (&eight, 16 * 128 + 1, 24),
     ] {
         let start = if length < 20 { 14 } else { 16 };
-        cases.claim(map, size).answers(&[3, start, length]);
+        cases.claim(map, size, 0).answers(&[3, start, length]);
     }
 }
 
 /// "the larger of m and the size", m being idlen+1 in whole clusters.
 fn need_of_m(cases: &mut Cases) {
     let map = build(&clusters_of_four(1), &[vec![object(2, 16), free(3_568)]]);
-    cases.claim(&map, 1).answers(&[3, 16, 16]);
+    cases.claim(&map, 1, 0).answers(&[3, 16, 16]);
 }
 
 /// "claim of 0 bytes", and sizes that are 0 or small modulo 2^32, or once
 /// rounded up modulo 2^64.
 fn sizes_near_the_limits(cases: &mut Cases) {
     let map = map_a();
-    cases.claim(&map, 0).gives(12);
+    cases.claim(&map, 0, 0).gives(12);
     for size in [1 << 32, (1 << 32) + 1, u64::MAX - 1_022, u64::MAX] {
-        cases.claim(&map, size).gives(15);
+        cases.claim(&map, size, 0).gives(15);
     }
 }
 
@@ -96,27 +98,29 @@ fn whole_hole(cases: &mut Cases) {
     let map = holes();
     for (bits, length) in [(88, 88), (89, 100)] {
         let start = first(1) as u64 + 32;
-        cases.claim(&map, bits * 1_024).answers(&[4, start, length]);
+        let answer = [168, start, length];
+        cases.claim(&map, bits * 1_024, 0).answers(&answer);
     }
     let zone = vec![object(2, 14), free(28), object(5, 1_494)];
     let map = build(&clusters_of_two(1), &[zone]);
-    cases.claim(&map, 14 * 128).answers(&[3, 14, 14]);
+    cases.claim(&map, 14 * 128, 0).answers(&[3, 14, 14]);
     let zone = vec![object(2, 16), free(40), object(5, 7_624)];
     let map = build(&clusters_of_eight(1), &[zone]);
-    cases.claim(&map, 24 * 128 + 1).answers(&[3, 16, 40]);
+    cases.claim(&map, 24 * 128 + 1, 0).answers(&[3, 16, 40]);
 }
 
-/// "Zones from 0, holes ascending: the first hole of length at least need",
-/// not the one that fits best.
+/// "holes ascending: the first hole of length at least need", not the one that fits
+/// best.
 fn first_hole_that_is_long_enough(cases: &mut Cases) {
     let map = holes();
     for (bits, start, length) in [(13, 52, 13), (24, 52, 30)] {
         let size = bits * 1_024 - 5;
-        cases.claim(&map, size).answers(&[4, start, length]);
+        cases.claim(&map, size, 0).answers(&[4, start, length]);
     }
 }
 
-/// "Zones from 0": zones 0 and 1 have no hole at all.
+/// "tries it, then ... one above, ... and so on": zones 0 and 1 have no hole at
+/// all. The id is one of zone 2.
 fn hole_in_a_later_zone(cases: &mut Cases) {
     let zones = [
         vec![object(7, 1_536)],
@@ -125,38 +129,40 @@ fn hole_in_a_later_zone(cases: &mut Cases) {
     ];
     let map = build(&plain(3), &zones);
     let start = first(2) as u64 + 12;
-    cases.claim(&map, 1).answers(&[3, start, 14]);
+    cases.claim(&map, 1, 0).answers(&[336, start, 14]);
 }
 
-/// "Zones from 0, holes ascending": a hole ends with its zone, so none has
+/// "the first hole of length at least need": a hole ends with its zone, so none has
 /// 2,017 bits.
 fn all_free_but_object_2(cases: &mut Cases) {
     let map = three_free_zones();
-    for (bits, start, length) in [(1_537, 1_548, 1_537), (2_005, 3_552, 2_016)] {
-        cases.claim(&map, bits * 1_024).answers(&[3, start, length]);
+    for (bits, id, start, length) in [(1_537, 168, 1_548, 1_537), (2_005, 336, 3_552, 2_016)] {
+        let answer = [id, start, length];
+        cases.claim(&map, bits * 1_024, 0).answers(&answer);
     }
-    cases.claim(&map, 2_017 * 1_024).gives(15);
+    cases.claim(&map, 2_017 * 1_024, 0).gives(15);
 }
 
 /// "no hole of length need", though all holes together have 166 bits.
 fn no_hole(cases: &mut Cases) {
     let map = holes();
-    cases.claim(&map, 100 * 1_024 + 1).gives(15);
+    cases.claim(&map, 100 * 1_024 + 1, 0).gives(15);
 }
 
-/// "The id is the lowest unused one from 3", with gaps, whatever the order on
-/// the map.
+/// "The id is the lowest unused one from 3 whose start zone is the chosen zone"
+/// here the only one: with gaps, whatever the order on the map.
 fn lowest_unused_id(cases: &mut Cases) {
     for (used, id) in [([3, 5, 4], 6), ([167, 3, 4], 5)] {
         let mut zone = vec![object(2, 12)];
         zone.extend(used.map(|id| object(id, 12)));
         zone.push(free(1_488));
         let map = build(&plain(1), &[zone]);
-        cases.claim(&map, 1).answers(&[id, 48, 12]);
+        cases.claim(&map, 1, 0).answers(&[id, 48, 12]);
     }
 }
 
-/// "the lowest unused one": 3 is used in the last zone, 4 behind the hole.
+/// "the lowest unused one from 3 whose start zone is the chosen zone": 3 is used in the
+/// last zone, 4 behind the hole.
 fn id_used_in_the_last_zone_only(cases: &mut Cases) {
     let zones = [
         vec![free(1_524), object(4, 12)],
@@ -164,7 +170,7 @@ fn id_used_in_the_last_zone_only(cases: &mut Cases) {
         vec![free(2_004), object(3, 12)],
     ];
     let map = build(&plain(3), &zones);
-    cases.claim(&map, 1).answers(&[5, 0, 12]);
+    cases.claim(&map, 1, 0).answers(&[5, 0, 12]);
 }
 
 /// "the lowest unused one": with 3 to 23 used, 24 is a link and no id.
@@ -173,7 +179,7 @@ fn ids_of_links(cases: &mut Cases) {
     zone.extend((3..24).map(|id| object(id, 12)));
     zone.extend([free(12), object(3, 12), free(1_236)]);
     let map = build(&plain(1), &[zone]);
-    cases.claim(&map, 1).answers(&[24, 276, 12]);
+    cases.claim(&map, 1, 0).answers(&[24, 276, 12]);
 }
 
 /// "Room given back is room again": object 7's joins the holes on both sides to
@@ -181,7 +187,7 @@ fn ids_of_links(cases: &mut Cases) {
 fn room_given_back(cases: &mut Cases) {
     let map = holes();
     let released = cases.release(&map, 7, 2).pairs(&[32, 20]);
-    cases.claim(&released, 50 * 1_024).answers(&[4, 20, 50]);
+    cases.claim(&released, 50 * 1_024, 0).answers(&[4, 20, 50]);
 }
 
 /// "nothing outside check byte, FreeLink, cross check and allocation bits".
@@ -191,8 +197,8 @@ fn bits_past_the_zone(cases: &mut Cases) {
         vec![object(2, 12), free(1_999)],
     ];
     let map = with_ones_outside(build(&odd_zone_end(2), &zones));
-    cases.claim(&map, 1).answers(&[3, 1_519, 12]);
-    cases.claim(&map, 2_000 * 1_024).gives(15);
+    cases.claim(&map, 1, 0).answers(&[3, 1_519, 12]);
+    cases.claim(&map, 2_000 * 1_024, 0).gives(15);
 }
 
 /// "no hole of length need": the hole ends with the disc, and whole zones lie
@@ -204,5 +210,5 @@ fn disc_end(cases: &mut Cases) {
         vec![object(1, 2_016)],
     ];
     let map = build(&disc_of(first(1) + 1_000, plain(3)), &zones);
-    cases.claim(&map, 988 * 1_024 + 1).gives(15);
+    cases.claim(&map, 988 * 1_024 + 1, 0).gives(15);
 }

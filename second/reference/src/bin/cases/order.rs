@@ -35,7 +35,7 @@ fn every_call(cases: &mut Cases, map: &[u8], number: u32, zone: u32) {
     cases.sweep_free(map, u64::MAX, 1).told(number, zone);
     cases.release(map, 0, 0).told(number, zone);
     cases.place(map, 0, &[]).told(number, zone);
-    cases.claim(map, 0).told(number, zone);
+    cases.claim(map, 0, 0).told(number, zone);
 }
 
 /// "1 (under 64), 2": 63 bytes with a record outside its ranges.
@@ -172,8 +172,8 @@ fn place_where_free_fragments_touch(cases: &mut Cases) {
 /// "then the rest in table order": 9, 12, 15.
 fn claim_in_table_order(cases: &mut Cases) {
     let map = touching_free();
-    cases.claim(&map, 0).told(9, 1);
-    cases.claim(&map, 1).told(9, 1);
-    cases.claim(&map, u64::MAX).told(9, 1);
-    cases.claim(&nothing_free(), 0).gives(12);
+    cases.claim(&map, 0, 0).told(9, 1);
+    cases.claim(&map, 1, 0).told(9, 1);
+    cases.claim(&map, u64::MAX, 0).told(9, 1);
+    cases.claim(&nothing_free(), 0, 0).gives(12);
 }

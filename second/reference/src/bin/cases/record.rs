@@ -103,7 +103,7 @@ fn shortest_zone(cases: &mut Cases) {
     let map = build(&record, &[vec![object(2, 16)]]);
     cases.check(&map).done();
     cases.free(&map, 0).pairs(&[]);
-    cases.claim(&map, 1).gives(15);
+    cases.claim(&map, 1, 0).gives(15);
     let mut smaller = map.clone();
     DiscRecord {
         zone_spare: 2_048 - 494,

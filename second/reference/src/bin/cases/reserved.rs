@@ -178,7 +178,7 @@ fn carried_bytes_stay(cases: &mut Cases) {
     let released = cases.release(&map, 5, 2).pairs(&[12, 20]);
     assert_eq!(released[4..64], map[4..64]);
     assert_eq!(cases.place(&released, 5, &[12, 20]).done(), map);
-    let claimed = cases.claim(&map, 1).answers(&[3, 32, 12]);
+    let claimed = cases.claim(&map, 1, 0).answers(&[3, 32, 12]);
     assert_eq!(claimed[4..64], map[4..64]);
 }
 
@@ -334,7 +334,7 @@ fn every_call(cases: &mut Cases) {
     cases.sweep_free(&map, 32_760, 20).gives(2);
     cases.release(&map, 5, 4).gives(2);
     cases.place(&map, 7, &[32, 12]).gives(2);
-    cases.claim(&map, 1).gives(2);
+    cases.claim(&map, 1, 0).gives(2);
     let mut made = cases.0[before..].iter();
     assert!(made.all(|case| number_on_b(case) == 0));
 }
@@ -352,7 +352,7 @@ fn every_call_with_wrong_arguments(cases: &mut Cases) {
     cases.release(&map, 0, 0).gives(2);
     cases.place(&map, 0, &[]).gives(2);
     cases.place(&map, 5, &[12]).gives(2);
-    cases.claim(&map, 0).gives(2);
+    cases.claim(&map, 0, 0).gives(2);
     let mut made = cases.0[before..].iter();
     assert!(made.all(|case| number_on_b(case) > 2));
 }
@@ -363,5 +363,5 @@ fn edits_where_free_fragments_touch(cases: &mut Cases) {
     let map = with_bytes(&build(&plain(1), &[zone]), 55, &[0x02]);
     cases.release(&map, 5, 2).gives(2);
     cases.place(&map, 6, &[32, 12]).gives(2);
-    cases.claim(&map, 1).gives(2);
+    cases.claim(&map, 1, 0).gives(2);
 }

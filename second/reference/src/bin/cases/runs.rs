@@ -39,17 +39,18 @@ fn place_then_release(cases: &mut Cases) {
     assert_eq!(cases.release(&placed, 505, 8).pairs(&list), map);
 }
 
-/// "... or claimed": in zone 0, and in a zone that has none.
+/// "... or claimed": in zone 0, and in zone 1 once zone 0 has no hole left.
 fn claim_then_release(cases: &mut Cases) {
     let map = four_zones();
-    let claimed = cases.claim(&map, 1_414 * 1_024).answers(&[3, 122, 1_414]);
-    let second = cases.claim(&claimed, 1).answers(&[4, 1_673, 12]);
-    assert_eq!(cases.release(&second, 4, 2).pairs(&[1_673, 12]), claimed);
+    let size = 1_414 * 1_024;
+    let claimed = cases.claim(&map, size, 0).answers(&[3, 122, 1_414]);
+    let second = cases.claim(&claimed, 1, 0).answers(&[168, 1_673, 12]);
+    assert_eq!(cases.release(&second, 168, 2).pairs(&[1_673, 12]), claimed);
     assert_eq!(cases.release(&claimed, 3, 2).pairs(&[122, 1_414]), map);
 }
 
-/// "the first is a release and the second ... a claim": the lowest id, in the
-/// first hole.
+/// "the first is a release and the second ... a claim": the lowest id of zone 0, in
+/// its first hole.
 fn release_then_claim(cases: &mut Cases) {
     let zones = [
         vec![object(7, 20), object(3, 30), object(8, 1_486)],
@@ -57,7 +58,7 @@ fn release_then_claim(cases: &mut Cases) {
     ];
     let map = build(&plain(2), &zones);
     let released = cases.release(&map, 3, 2).pairs(&[20, 30]);
-    let claimed = cases.claim(&released, 30 * 1_024).answers(&[3, 20, 30]);
+    let claimed = cases.claim(&released, 30 * 1_024, 0).answers(&[3, 20, 30]);
     assert_eq!(claimed, map);
 }
 
@@ -67,7 +68,7 @@ fn undone_last_first(cases: &mut Cases) {
     let map = three_zones();
     let list = [100, 50, first(1) + 100, 60];
     let first_left = cases.place(&map, 9, &list).done();
-    let second_left = cases.claim(&first_left, 300 * 512).done();
+    let second_left = cases.claim(&first_left, 300 * 512, 0).done();
     let pairs = pairs_of(&second_left, 7);
     let third_left = cases.release(&second_left, 7, 6).pairs(&pairs);
     let back = cases.place(&third_left, 7, &pairs).done();
@@ -80,7 +81,7 @@ fn undone_last_first(cases: &mut Cases) {
 /// "with refused calls struck out": they write nothing.
 fn refused_calls_between(cases: &mut Cases) {
     let map = map_b();
-    let claimed = cases.claim(&map, 1).answers(&[3, 32, 12]);
+    let claimed = cases.claim(&map, 1, 0).answers(&[3, 32, 12]);
     cases.place(&claimed, 4, &[32, 12]).gives(13);
     cases.release(&claimed, 3, 1).gives(17);
     assert_eq!(cases.release(&claimed, 3, 2).pairs(&[32, 12]), map);

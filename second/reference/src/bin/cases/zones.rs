@@ -278,21 +278,23 @@ fn refused_lists(cases: &mut Cases) {
     cases.place(&map, 3, &[first(255) - 15, 16]).gives(12);
 }
 
-/// "Zones from 0, holes ascending: the first hole of length at least need": the
-/// only one is in zone 128, or in zone 254; and "no hole of length need".
+/// "The first hole of length at least need": the only one is in zone 128, or in zone
+/// 254, whose first ids are given; and "no hole of length need".
 fn claims(cases: &mut Cases) {
     let map = half_as_long();
     let start = first(128) as u64;
-    cases.claim(&map, 84 * 1_024).answers(&[3, start, 84]);
-    cases.claim(&map, 100 * 1_024 + 1).gives(15);
+    let id = 128 * 126;
+    cases.claim(&map, 84 * 1_024, 0).answers(&[id, start, 84]);
+    cases.claim(&map, 100 * 1_024 + 1, 0).gives(15);
     let start = first(254) as u64 + 1_916;
     let size = 84 * 1_024 + 1;
-    cases.claim(&wrapping(), size).answers(&[3, start, 100]);
+    let answer = [254 * 126, start, 100];
+    cases.claim(&wrapping(), size, 0).answers(&answer);
 }
 
-/// "The id is the lowest unused one from 3": 3 to 16,130 are used, each by a
-/// shortest fragment, from zone 0 up to the 31st in zone 128; there the next id
-/// starts too.
+/// "The id is the lowest unused one from 3 whose start zone is the chosen zone":
+/// 3 to 16,130 are used, each by a shortest fragment, from zone 0 up to the 31st in
+/// zone 128; there the next id starts too.
 fn claim_of_a_high_id(cases: &mut Cases) {
     let mut ids = 3..=16_130;
     let mut zones = full_zones(&many_zones(130));
@@ -305,7 +307,7 @@ fn claim_of_a_high_id(cases: &mut Cases) {
     zones[128].push(free(2_016 - 31 * 16));
     let map = build(&many_zones(130), &zones);
     let start = first(128) as u64 + 31 * 16;
-    cases.claim(&map, 1).answers(&[16_131, start, 16]);
+    cases.claim(&map, 1, 0).answers(&[16_131, start, 16]);
 }
 
 /// The record with 128 bytes a map bit, and so a k of 2, and a disc that ends
