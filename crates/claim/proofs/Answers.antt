@@ -23,8 +23,8 @@ use Rattle.edits.specs.Edits.{gives, Edit}
 use Rattle.model.specs.Answer.{Answer, refused, answered}
 use Rattle.edits.specs.Near.{zonesNear}
 use Rattle.edits.specs.Judge.{claim, place, need, firstHole, holesNear, taken, lowestId, unused, Choice, choice, chooseIn, chosen, claimFits, byChoice, judge}
-use Rattle.edits.proofs.ZonesNear.{near-exists, in-holes-of}
-use Rattle.edits.proofs.ClaimFits.{first-in, hole-zone}
+use Rattle.edits.proofs.ZonesNear.{near-exists}
+use Rattle.edits.proofs.ClaimFits.{first-in, in-holes-of, hole-zone}
 use Rattle.edits.proofs.Invariant.{zoned-on-disc}
 use Rattle.edits.proofs.Chosen.{choice-parts}
 use Rattle.edits.proofs.Fourteen.{no-fourteen}

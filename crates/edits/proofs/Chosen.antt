@@ -22,11 +22,11 @@ use Rattle.edits.specs.Holes.{holesIn}
 use Rattle.edits.specs.Room.{In}
 use Rattle.edits.specs.Judge.{isEmpty, editable, need, firstHole, holesNear, taken, lowest, lowestId, unused, unusedOf, orAny, idFor, Choice, choice, chooseIn, chosen}
 use Rattle.edits.proofs.Kept.{All}
-use Rattle.edits.proofs.ZonesNear.{near-exists, in-holes-of}
+use Rattle.edits.proofs.ZonesNear.{near-exists}
 use Rattle.edits.proofs.ObjectOrder.{InOrder}
 use Rattle.edits.proofs.Gaps.{isLong}
 use Rattle.edits.proofs.Invariant.{FitPieces, zoned-on-disc}
-use Rattle.edits.proofs.ClaimFits.{first-in, taken-len, hole-zone, fit-claim}
+use Rattle.edits.proofs.ClaimFits.{first-in, in-holes-of, taken-len, hole-zone, fit-claim}
 
 pub empty : {A : Type 0} (l : List A) → isEmpty l ≡ true → l ≡ []
 empty [] h = refl

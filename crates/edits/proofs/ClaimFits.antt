@@ -17,7 +17,7 @@ use Rattle.model.specs.Chain.{Pair}
 use Rattle.model.specs.Pieces.{Piece}
 use Rattle.model.proofs.Options.{none-some, some-some}
 use Rattle.edits.specs.Edits.{insert, own, give, inZone}
-use Rattle.edits.specs.Holes.{holes, holesIn, holesFrom, gapFits, apart}
+use Rattle.edits.specs.Holes.{holes, holesIn, holesOf, upward, holesFrom, gapFits, apart}
 use Rattle.edits.specs.Judge.{firstHole, taken}
 use Rattle.edits.specs.Room.{In}
 use Rattle.edits.proofs.Kept.{All, all-keep, all-insert}
@@ -36,24 +36,41 @@ first-in n (x ∷ xs) h e =
     (λ t. let k : x ≡ h = some-some (simp t at e) in (inl (sym k), subst (λ (q : Pair). n ≤ q .len) k (leb-true n (x .len) t)))
     (λ t. let r = first-in n xs h (simp t at e) in (inr (r .0), r .1))
 
--- a hole is one of its zone's
+-- a hole of zones is one of a zone of theirs, and the other way round
+pub in-holes-of : (g : Geometry) (l : List Piece) (zs : List ℕ) (h : Pair) → In h (holesOf g l zs) → (z : ℕ) × In z zs × In h (holesIn g l z)
+in-holes-of g l [] h i = absurd i
+in-holes-of g l (z ∷ zs) h i = go (in-append h (holesIn g l z) (holesOf g l zs) i) (in-holes-of g l zs h)
+  where
+    go : In h (holesIn g l z) ⊎ In h (holesOf g l zs) → (In h (holesOf g l zs) → (y : ℕ) × In y zs × In h (holesIn g l y)) → (y : ℕ) × In y (z ∷ zs) × In h (holesIn g l y)
+    go (inl j) ih = (z, inl refl, j)
+    go (inr j) ih = let r = ih j in (r .0, inr (r .1), r .2)
+
+pub holes-of-in : (g : Geometry) (l : List Piece) (zs : List ℕ) (z : ℕ) → In z zs → (h : Pair) → In h (holesIn g l z) → In h (holesOf g l zs)
+holes-of-in g l [] z i h j = absurd i
+holes-of-in g l (x ∷ xs) z (inl e) h j = in-left h (holesIn g l x) (holesOf g l xs) (subst (λ (y : ℕ). In h (holesIn g l y)) e j)
+holes-of-in g l (x ∷ xs) z (inr i) h j = in-right h (holesIn g l x) (holesOf g l xs) (holes-of-in g l xs z i h j)
+
+-- so of n zones from z on
+in-upward : (z n i : ℕ) → In i (upward z n) → (z ≤ i) × (i < z + n)
+in-upward z zero i k = absurd k
+in-upward z (suc n) i (inl e) = (omega arith, omega arith)
+in-upward z (suc n) i (inr k) = let r = in-upward (suc z) n i k in (omega arith, omega arith)
+
+upward-in : (z n i : ℕ) → z ≤ i → i < z + n → In i (upward z n)
+upward-in z zero i lo hi = absurd (omega arith)
+upward-in z (suc n) i lo hi = by-test (eqb i z) (λ t. inl (eqb-true i z t)) (λ t. inr (upward-in (suc z) n i (omega (arith, eqb-false i z t)) (omega arith)))
+
 abbrev pub InSomeZone : Geometry → ℕ → ℕ → List Piece → Pair → Type 0
 InSomeZone g z n l h = (i : ℕ) × (z ≤ i) × (i < z + n) × In h (holesIn g l i)
 
 pub in-holes : (g : Geometry) (z n : ℕ) (l : List Piece) (h : Pair) → In h (holesFrom g z n l) → InSomeZone g z n l h
-in-holes g z zero l h i = absurd i
-in-holes g z (suc n) l h i = go (in-append h (holesIn g l z) (holesFrom g (suc z) n l) i) (in-holes g (suc z) n l h)
-  where
-    go : In h (holesIn g l z) ⊎ In h (holesFrom g (suc z) n l) → (In h (holesFrom g (suc z) n l) → InSomeZone g (suc z) n l h) → InSomeZone g z (suc n) l h
-    go (inl j) ih = (z, omega arith, omega arith, j)
-    go (inr j) ih = let r = ih j in (r .0, omega arith, omega arith, r .3)
+in-holes g z n l h i =
+    let r = in-holes-of g l (upward z n) h i in
+    let b = in-upward z n (r .0) (r .1) in
+    (r .0, b .0, b .1, r .2)
 
 pub holes-in : (g : Geometry) (z n : ℕ) (l : List Piece) (i : ℕ) → z ≤ i → i < z + n → (h : Pair) → In h (holesIn g l i) → In h (holesFrom g z n l)
-holes-in g z zero l i lo hi h k = absurd (omega arith)
-holes-in g z (suc n) l i lo hi h k =
-    by-test (eqb i z)
-    (λ t. in-left h (holesIn g l z) (holesFrom g (suc z) n l) (subst (λ (j : ℕ). In h (holesIn g l j)) (eqb-true i z t) k))
-    (λ t. in-right h (holesIn g l z) (holesFrom g (suc z) n l) (holes-in g (suc z) n l i (omega (arith, eqb-false i z t)) (omega arith) h k))
+holes-in g z n l i lo hi = holes-of-in g l (upward z n) i (upward-in z n i lo hi)
 
 -- a hole of a zone's pieces, some or all of it taken
 abbrev pub HoleTaken : ℕ → ℕ → ℕ → List Piece → Pair → Piece → Type 0

@@ -1,19 +1,13 @@
--- The zones that a claim tries, one distance after the other: each is a zone of the disc, at its distance below or above the parent. And a hole of
--- theirs is one of some zone's.
+-- The zones that a claim tries, one distance after the other: each is a zone of the disc, at its distance below or above the parent.
 use mathlib.Core.Path.{_≡_, refl}
 use mathlib.Core.Bool.{Bool, true, false, _&&_}
-use mathlib.Core.List.{List, [], _∷_}
 use mathlib.Core.Logic.{_⊎_, inl, inr}
 use Prim.Native.Nat.{ℕ, zero, suc, _+_, _-_, _<_, _≤_}
 use native.Mathlib.Omega.{arith}
 use lib.Dec.{ltb, leb}
 use borrow.Author.Tests.{ltb-true, leb-true}
 use Rattle.bits.proofs.Tests.{both}
-use Rattle.geometry.specs.declared.Geometry.{Geometry}
-use Rattle.model.specs.Chain.{Pair}
-use Rattle.model.specs.Pieces.{Piece}
 use Rattle.edits.specs.Near.{zoneIf, zonesAt, zonesFrom, zonesNear}
-use Rattle.edits.specs.Holes.{holesIn, holesOf}
 use Rattle.edits.specs.Room.{In}
 use Rattle.edits.proofs.Entries.{in-append}
 
@@ -51,12 +45,3 @@ module _ (zones p : ℕ) (k : p < zones) where
 
   pub near-exists : (z : ℕ) → In z (zonesNear zones p) → z < zones
   near-exists z i = in-from 0 zones z i .3 .0
-
--- a hole of zones is one of them
-pub in-holes-of : (g : Geometry) (l : List Piece) (zs : List ℕ) (h : Pair) → In h (holesOf g l zs) → (z : ℕ) × In z zs × In h (holesIn g l z)
-in-holes-of g l [] h i = absurd i
-in-holes-of g l (z ∷ zs) h i = go (in-append h (holesIn g l z) (holesOf g l zs) i) (in-holes-of g l zs h)
-  where
-    go : In h (holesIn g l z) ⊎ In h (holesOf g l zs) → (In h (holesOf g l zs) → (y : ℕ) × In y zs × In h (holesIn g l y)) → (y : ℕ) × In y (z ∷ zs) × In h (holesIn g l y)
-    go (inl j) ih = (z, inl refl, j)
-    go (inr j) ih = let r = ih j in (r .0, inr (r .1), r .2)

@@ -17,17 +17,21 @@ abbrev pub holes : ℕ → ℕ → List Piece → List Pair
 holes at end [] = hole at end []
 holes at end (p ∷ ps) = hole at (p .at .start) (holes (p .at .start + p .at .len) end ps)
 
--- of a zone; of n zones from z on; of zones in some order
+-- of a zone, and of zones in some order
 abbrev pub holesIn : Geometry → List Piece → ℕ → List Pair
 holesIn g l z = holes (zoneFrom g z) (zoneEnd g z) (inZone g z l)
-
-abbrev pub holesFrom : Geometry → ℕ → ℕ → List Piece → List Pair
-holesFrom g z zero l = []
-holesFrom g z (suc n) l = holesIn g l z ++ holesFrom g (suc z) n l
 
 abbrev pub holesOf : Geometry → List Piece → List ℕ → List Pair
 holesOf g l [] = []
 holesOf g l (z ∷ zs) = holesIn g l z ++ holesOf g l zs
+
+-- of n zones from z on
+abbrev pub upward : ℕ → ℕ → List ℕ
+upward z zero = []
+upward z (suc n) = z ∷ upward (suc z) n
+
+abbrev pub holesFrom : Geometry → ℕ → ℕ → List Piece → List Pair
+holesFrom g z n l = holesOf g l (upward z n)
 
 -- The pieces do not overlap, lie between `at` and `end`, and leave no hole of 1 to m - 1 bits: what refusal 13 asks of the
 -- pieces after a place. The contract of `runs::edit_table` shows that to be document 01's words.

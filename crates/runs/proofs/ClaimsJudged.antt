@@ -26,11 +26,11 @@ use Rattle.edits.specs.Judge.{isEmpty, need, firstHole, holesNear, taken, lowes
 use Rattle.edits.specs.Room.{In, Earlier}
 use Rattle.edits.specs.Editable.{Editable}
 use Rattle.edits.proofs.Kept.{all-keep}
-use Rattle.edits.proofs.Entries.{in-left, in-right, earlier-in}
+use Rattle.edits.proofs.Entries.{earlier-in}
 use Rattle.edits.proofs.HolesLeft.{apart-lies}
 use Rattle.edits.proofs.Found.{orElse, first-append}
 use Rattle.edits.proofs.ZonesNear.{near-exists}
-use Rattle.edits.proofs.ClaimFits.{first-in, in-holes, holes-in, hole-zone}
+use Rattle.edits.proofs.ClaimFits.{first-in, holes-of-in, in-holes, holes-in, hole-zone}
 use Rattle.edits.proofs.Invariant.{FitPieces, some-bits}
 use Rattle.edits.proofs.Chosen.{empty, IdFor, there, elsewhere, id-found, id-ordinary}
 use Rattle.edits.proofs.MapAccepted.{map-geometry, map-disc}
@@ -141,12 +141,7 @@ module _ (g : Geometry) (l : List Piece) (n p : ℕ) where
       go (some q) k ih = record { zone = x; tried = inl refl; found = k ∙ split (some q) k; none-nearer = λ y i m. absurd (behind y i m) }
 
   none-found : (zs : List ℕ) → firstHole n (holesOf g l zs) ≡ none → (z : ℕ) → In z zs → (h : Pair) → In h (holesIn g l z) → h .len < n
-  none-found zs e z i h j = none-long n (holesOf g l zs) e h (among zs i)
-    where
-      among : (zs : List ℕ) → In z zs → In h (holesOf g l zs)
-      among [] i = absurd i
-      among (x ∷ xs) (inl k) = in-left h (holesIn g l x) (holesOf g l xs) (subst (λ (u : ℕ). In h (holesIn g l u)) k j)
-      among (x ∷ xs) (inr k) = in-right h (holesIn g l x) (holesOf g l xs) (among xs k)
+  none-found zs e z i h j = none-long n (holesOf g l zs) e h (holes-of-in g l zs z i h j)
 
 -- what is taken, where nothing or at least m bits would remain
 part-taken : (m n : ℕ) (h : Pair) → (h .len ≡ n) ⊎ (n + m ≤ h .len) → (taken m n h) .len ≡ n
