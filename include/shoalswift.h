@@ -18,7 +18,7 @@
  *  3  a zone check differs                                   with a parent zone that is not on the disc
  *  4  cross checks don't give 255                        13  a listed bit isn't free, or a leftover of 1 to m-1 free bits
  *  5  FreeLink's top bit clear, or a link that lands     14  claim: no unused id (cannot arise)
- *     on no fragment start                               15  claim: no hole long enough
+ *     on no fragment start                               15  claim: all free bits are fewer than needed
  *  6  a fragment without room, closing bit or whole      16  start offset plus position past the object; stretch past the disc
  *     clusters                                           17  too few entries for the pairs
  *  7  id, object 2 or disc-end rule broken
@@ -51,10 +51,10 @@
 #include <stdint.h>
 
 /* A new major number: callers have to change. A new minor number: there is more to call. */
-#define SHOALSWIFT_VERSION_MAJOR 2
+#define SHOALSWIFT_VERSION_MAJOR 3
 #define SHOALSWIFT_VERSION_MINOR 0
 #define SHOALSWIFT_VERSION_PATCH 0
-#define SHOALSWIFT_VERSION "2.0.0"
+#define SHOALSWIFT_VERSION "3.0.0"
 
 #ifdef __cplusplus
 extern "C" {
@@ -96,11 +96,14 @@ uint32_t shoalswift_release(uint8_t *map, size_t map_len, uint32_t id, uint32_t 
 /* Gives the listed pieces to an absent id. Further: 8, 9, 11, 12, 13. */
 uint32_t shoalswift_place(uint8_t *map, size_t map_len, uint32_t id, const uint32_t *list, size_t list_len, uint32_t *zone);
 
-/* Gives a hole that is long enough for size bytes to an unused id. Zones are tried from the parent zone on: that one, the one below it, the
- * one above it, two below and so on; in a zone the first such hole is taken. The id is the lowest unused one whose start zone is the
- * hole's zone, or if that has none left the lowest unused one. Further: 9, 12 (0 bytes, or no such parent zone), 15. */
-uint32_t shoalswift_claim(uint8_t *map, size_t map_len, uint64_t size, uint32_t parent, uint32_t *id, uint32_t *start,
-                          uint32_t *length, uint32_t *zone);
+/* Gives room for size bytes to an unused id, and writes the pieces given in object order, as shoalswift_list would; *pairs is their number.
+ * One hole that is long enough is taken if there is one: zones are tried from the parent zone on (that one, the one below it, the one above it,
+ * two below and so on), and in a zone the first such hole is taken. If there is none, holes are taken the largest first, of equal ones the lower
+ * disc bit first: whole, while they are no longer than what remains to be found, and of the last one what remains. The id is the lowest unused
+ * one whose start zone is the zone of the first hole taken, or if that has none left the lowest unused one. Further: 9, 12 (0 bytes, or no such
+ * parent zone), 15, 17. */
+uint32_t shoalswift_claim(uint8_t *map, size_t map_len, uint64_t size, uint32_t parent, uint32_t *list, size_t list_len, uint32_t *id,
+                          uint64_t *pairs, uint32_t *zone);
 
 /* A disc has its map twice. Chooses of two copies the one that is an accepted map: *which is 1 for the first if that is accepted, else 2
  * for the second if that is; else the first's refusal is answered and *which is 0. *equal is 1 where the copies are byte for byte equal

@@ -124,18 +124,29 @@ pub fn place(map: &mut [u8], id: u32, list: &[u32]) -> Result<(), Refusal> {
     answered(|(), zone| unsafe { shoalswift_place(bytes, length, id, pieces, entries, zone) })
 }
 
-/// Gives a hole that is long enough for `size` bytes to an unused id. Zones are
-/// tried from zone `parent` on: that one, the one below it, the one above it, two
-/// below and so on. The id is the lowest unused one whose start zone is the hole's
-/// zone, or if that has none left the lowest unused one. Refused further: 9, 12
-/// (0 bytes, or no such parent zone), 15.
-pub fn claim(map: &mut [u8], size: u64, parent: u32) -> Result<Claimed, Refusal> {
+/// Gives room for `size` bytes to an unused id, writes its pieces in object order
+/// and answers the id and how many pairs. One hole that is long enough is taken if
+/// there is one; zones are tried from zone `parent` on: that one, the one below it,
+/// the one above it, two below and so on. If there is none, several holes are
+/// taken, the largest first. The id is the lowest unused one whose start zone is
+/// that of the first hole taken, or if that has none left the lowest unused one.
+/// Refused further: 9, 12 (0 bytes, or no such parent zone), 15, 17.
+pub fn claim(
+    map: &mut [u8],
+    size: u64,
+    parent: u32,
+    list: &mut [u32],
+) -> Result<Claimed, Refusal> {
     let (bytes, length) = (map.as_mut_ptr(), map.len());
-    // SAFETY: the map is borrowed by this call alone.
-    answered(|given: &mut Claimed, zone| unsafe {
-        let (id, start, len) = (&mut given.id, &mut given.start, &mut given.length);
-        shoalswift_claim(bytes, length, size, parent, id, start, len, zone)
-    })
+    let (room, entries) = (list.as_mut_ptr(), list.len());
+    let mut id = 0;
+    // SAFETY: map and list are each borrowed by this call alone.
+    let pairs = pairs(|n, zone| unsafe {
+        shoalswift_claim(
+            bytes, length, size, parent, room, entries, &mut id, n, zone,
+        )
+    })?;
+    Ok(Claimed { id, pairs })
 }
 
 /// Chooses of the two copies of a disc's map the one that is an accepted map:

@@ -82,9 +82,10 @@ extern "C" {
         map_len: usize,
         size: u64,
         parent: u32,
+        list: *mut u32,
+        list_len: usize,
         id: *mut u32,
-        start: *mut u32,
-        length: *mut u32,
+        pairs: *mut u64,
         zone: *mut u32,
     ) -> u32;
     pub fn shoalswift_choose_copy(

@@ -7,10 +7,11 @@
 //!
 //! ```
 //! let mut map = std::fs::read("../maps/a.map").unwrap();
-//! let claimed = shoalswift::claim(&mut map, 1, 0).unwrap();
+//! let mut given = [0; 2];
+//! let claimed = shoalswift::claim(&mut map, 1, 0, &mut given).unwrap();
 //! let mut list = [0; 2];
-//! assert_eq!(shoalswift::list(&map, claimed.id, &mut list), Ok(1));
-//! assert_eq!(list, [claimed.start, claimed.length]);
+//! assert_eq!(shoalswift::list(&map, claimed.id, &mut list), Ok(claimed.pairs));
+//! assert_eq!(list, given);
 //! assert_eq!(
 //!     shoalswift::release(&mut map, 2, &mut list).unwrap_err().reason,
 //!     shoalswift::Reason::NumberRange
@@ -56,15 +57,13 @@ pub struct Location {
     pub run: u64,
 }
 
-/// What a claim gave: a new object of one piece.
-#[derive(Clone, Copy, Debug, Default, PartialEq, Eq)]
+/// What a claim gave: a new object, whose pieces are in the list.
+#[derive(Clone, Copy, Debug, PartialEq, Eq)]
 pub struct Claimed {
     /// The id, which was unused before.
     pub id: u32,
-    /// The disc bit where the piece starts.
-    pub start: u32,
-    /// The piece's length in map bits.
-    pub length: u32,
+    /// How many pairs were written: more than one where no hole was long enough.
+    pub pairs: usize,
 }
 
 /// What the two copies of a disc's map come to.

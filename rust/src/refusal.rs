@@ -40,8 +40,8 @@ pub enum Reason {
     NotFree = 13,
     /// All ids are in use. The rules for maps leave no way to reach this.
     NoUnusedId = 14,
-    /// No hole is long enough.
-    NoHole = 15,
+    /// All free space together is too little.
+    NoRoom = 15,
     /// The position or stretch is past the end.
     PastEnd = 16,
     /// The list lent is too short for the answer.
@@ -64,7 +64,7 @@ const REASONS: [Reason; 17] = [
     Reason::BadRequest,
     Reason::NotFree,
     Reason::NoUnusedId,
-    Reason::NoHole,
+    Reason::NoRoom,
     Reason::PastEnd,
     Reason::ListTooShort,
 ];
@@ -100,7 +100,7 @@ impl Reason {
             Reason::BadRequest => "the list of pieces, or a size of 0, cannot be used",
             Reason::NotFree => "the room asked for is in use, or a rest too small to keep is left",
             Reason::NoUnusedId => "every object number is in use",
-            Reason::NoHole => "no free span is long enough",
+            Reason::NoRoom => "all free space together is too little",
             Reason::PastEnd => "this lies past the end of the object or of the disc",
             Reason::ListTooShort => "the list is too short to hold all pieces",
         }

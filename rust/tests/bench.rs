@@ -4,8 +4,8 @@
 use std::fs;
 
 use shoalswift::{
-    address, check, claim, free, geometry, list, place, release, sweep_free, sweep_object, Claimed,
-    Geometry, Location, Refusal,
+    address, check, claim, free, geometry, list, place, release, sweep_free, sweep_object, Geometry,
+    Location, Refusal,
 };
 
 fn map_a() -> Vec<u8> {
@@ -60,11 +60,19 @@ fn placed(map: &mut [u8], id: u32, pieces: &[u32]) -> Result<(), (u32, u32)> {
     answer
 }
 
-fn claimed(map: &mut [u8], size: u64, parent: u32) -> Result<(u32, u32, u32), (u32, u32)> {
+/// The id that a claim gives and its pairs.
+fn claimed(
+    map: &mut [u8],
+    size: u64,
+    parent: u32,
+    room: usize,
+) -> Result<(u32, Vec<u32>), (u32, u32)> {
+    let mut entries = vec![ENTRY; room];
     let before = map.to_vec();
-    let answer = told(claim(map, size, parent));
+    let answer = told(claim(map, size, parent, &mut entries));
     assert_eq!(answer.is_err(), map == before, "a refusal changes no byte");
-    answer.map(|Claimed { id, start, length }| (id, start, length))
+    let pairs = written(answer.map(|given| given.pairs), entries)?;
+    answer.map(|given| (given.id, pairs))
 }
 
 /// Sweeps a stretch and tells how many bytes of it changed.
@@ -143,21 +151,43 @@ fn place_rows() {
 #[test]
 fn claim_rows() {
     let rows = [
-        (1, Ok((3, 12, 12))),
-        (1_548_288, Ok((3, 12, 1512))),
-        (1_548_289, Ok((3, 12, 1524))),
-        (1_560_576, Ok((3, 12, 1524))),
+        (1, Ok((3, vec![12, 12]))),
+        (1_548_288, Ok((3, vec![12, 1512]))),
+        (1_548_289, Ok((3, vec![12, 1524]))),
+        (1_560_576, Ok((3, vec![12, 1524]))),
         (1_560_577, Err((15, 0))),
         (u64::MAX, Err((15, 0))),
         (0, Err((12, 0))),
     ];
     for (size, answer) in rows {
         let mut map = map_a();
-        assert_eq!(claimed(&mut map, size, 0), answer, "{size} bytes");
+        assert_eq!(claimed(&mut map, size, 0, 4), answer, "{size} bytes");
         assert!(check(&map).is_ok());
-        assert_eq!(claimed(&mut map_a(), size, 1), Err((12, 0)), "one zone");
+        assert_eq!(claimed(&mut map_a(), size, 1, 4), Err((12, 0)), "one zone");
     }
-    assert_eq!(claimed(&mut map_a(), 1, u32::MAX), Err((12, 0)));
+    assert_eq!(claimed(&mut map_a(), 1, u32::MAX, 4), Err((12, 0)));
+}
+
+/// Map A with object 4 at (24,12) has holes of 12 and 1,500 bits. Neither has 1,501:
+/// the larger goes whole, and the other gives m bits, its whole length.
+#[test]
+fn a_claim_in_two_pieces() {
+    let mut map = map_a();
+    placed(&mut map, 4, &[24, 12]).unwrap();
+    let before = map.clone();
+    let size = 1_501 * 1_024;
+    for room in 0..4 {
+        assert_eq!(claimed(&mut map, size, 0, room), Err((17, 0)));
+    }
+    let pieces = vec![12, 12, 36, 1500];
+    assert_eq!(claimed(&mut map, size, 0, 5), Ok((3, pieces.clone())));
+    assert_eq!(listed(&map, 3, 4), Ok(pieces.clone()));
+    let mut other = before.clone();
+    assert_eq!(placed(&mut other, 3, &pieces), Ok(()));
+    assert!(other == map, "a claim is the place of its list");
+    assert_eq!(released(&mut map, 3, 4), Ok(pieces));
+    assert!(map == before);
+    assert_eq!(claimed(&mut map, 1_513 * 1_024, 0, 4), Err((15, 0)));
 }
 
 #[test]
@@ -245,8 +275,8 @@ fn touching_holes_are_read_but_not_edited() {
     map[66] = 0x80;
     let mut map = mend_check(map);
     assert_eq!(free_spans(&map, 4), Ok(vec![12, 12, 24, 1512]));
-    assert_eq!(claimed(&mut map, 1, 0), Err((9, 0)));
-    assert_eq!(claimed(&mut map, 1, 1), Err((9, 0)));
+    assert_eq!(claimed(&mut map, 1, 0, 2), Err((9, 0)));
+    assert_eq!(claimed(&mut map, 1, 1, 2), Err((9, 0)));
     assert_eq!(placed(&mut map, 5, &[12, 12]), Err((9, 0)));
     assert_eq!(released(&mut map, 5, 2), Err((9, 0)));
 }
@@ -258,6 +288,7 @@ fn lists_without_room_and_lists_that_cannot_be_used() {
         assert_eq!(listed(&b, 5, room), Err((17, 0)));
         assert_eq!(free_spans(&b, room), Err((17, 0)));
         assert_eq!(released(&mut b, 5, room), Err((17, 0)));
+        assert_eq!(claimed(&mut b, 1, 0, room), Err((17, 0)));
     }
     assert_eq!(placed(&mut b, 5, &[40, 12]), Err((11, 0)));
     assert_eq!(placed(&mut b, 6, &[]), Err((12, 0)));

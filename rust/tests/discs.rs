@@ -108,7 +108,7 @@ impl Disc {
             self.fill_file(id);
         }
         for (size, parent) in [(1, 0), (5_000, zones / 2), (100_000, zones - 1)] {
-            let claimed = claim(&mut self.map, size, parent).expect("there is room");
+            let claimed = claim(&mut self.map, size, parent, &mut [0; 2]).expect("there is room");
             assert_eq!(
                 claimed.id / per_zone,
                 parent,
@@ -419,7 +419,9 @@ fn an_object_goes_round_1000_zones() {
 
 /// Claims of which a zone has room for one: the parent zone, then the others by
 /// their distance. Each has the lowest id that starts in its zone, which is 3 in
-/// zone 0. Then there is no hole, and the releases give the fresh map.
+/// zone 0. Then no hole is long enough, and one more claim takes the largest holes
+/// whole and a part of the next, for an id of the first one's zone; after that there
+/// is no room. The releases give the fresh map.
 #[test]
 fn claims_go_to_the_zones_by_their_distance() {
     let shape = HARD_DISC_256;
@@ -433,14 +435,26 @@ fn claims_go_to_the_zones_by_their_distance() {
     ] {
         let mut map = fresh.clone();
         let size = 1_500 * shape.bytes_per_map_bit() as u64;
-        let given = zones.map(|_| claim(&mut map, size, parent).expect("a zone has room"));
+        let mut list = [0; 8];
+        let given = zones.map(|_| claim(&mut map, size, parent, &mut list).expect("room"));
         assert_eq!(given.map(|new| new.id), zones.map(|z| 3.max(z * per_zone)));
-        let full = claim(&mut map, size, parent).unwrap_err();
-        assert_eq!((full.reason, full.zone), (Reason::NoHole, 0));
-        let no_zone = claim(&mut map, size, 5).unwrap_err();
+        assert!(given.iter().all(|new| new.pairs == 1));
+        // 516 bits are left in zones 1, 3 and 4: the third gives what remains of 1,500.
+        let short = claim(&mut map, size, parent, &mut list[..5]).unwrap_err();
+        assert_eq!((short.reason, short.zone), (Reason::ListTooShort, 0));
+        let split = claim(&mut map, size, parent, &mut list).expect("room in pieces");
+        assert_eq!((split.id, split.pairs), (per_zone + 1, 3));
+        let spans = [3_036, 516, 7_068, 516, 9_084, 468];
+        assert_eq!(list[..6], spans);
+        assert_eq!(pieces(&map, split.id), pairs_of(&spans));
+        let full = claim(&mut map, size, parent, &mut list).unwrap_err();
+        assert_eq!((full.reason, full.zone), (Reason::NoRoom, 0));
+        let no_zone = claim(&mut map, size, 5, &mut list).unwrap_err();
         assert_eq!((no_zone.reason, no_zone.zone), (Reason::BadRequest, 0));
+        assert_eq!(release(&mut map, split.id, &mut list), Ok(3));
+        assert_eq!(list[..6], spans);
         for new in given {
-            assert_eq!(release(&mut map, new.id, &mut [0; 2]), Ok(1));
+            assert_eq!(release(&mut map, new.id, &mut list), Ok(1));
         }
         assert!(map == fresh);
     }
@@ -450,7 +464,7 @@ fn claims_go_to_the_zones_by_their_distance() {
 fn a_claim_on_e_plus_is_undone_and_has_no_address() {
     let fresh = fresh_map(&PLUS_OF_1000_ZONES);
     let mut map = fresh.clone();
-    let claimed = claim(&mut map, 1_000_000, 700).expect("there is room");
+    let claimed = claim(&mut map, 1_000_000, 700, &mut [0; 2]).expect("there is room");
     assert_eq!(claimed.id, 700 * PLUS_OF_1000_ZONES.ids_per_zone());
     assert_eq!(pieces(&map, claimed.id).len(), 1);
     for n in [0, 0x200, claimed.id << 8, u32::MAX] {

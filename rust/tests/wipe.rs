@@ -60,12 +60,13 @@ fn a_piece_longer_than_a_window_is_wiped_whole() {
     let folder = folder("long");
     let (map, image) = (folder.join("map"), folder.join("image"));
     let mut bytes = fs::read("../maps/a.map").unwrap();
-    let claimed = claim(&mut bytes, 1_200_000, 0).unwrap();
+    let mut piece = [0; 2];
+    let claimed = claim(&mut bytes, 1_200_000, 0, &mut piece).unwrap();
     fs::write(&map, &bytes).unwrap();
     fs::write(&image, vec![7; DISC_SIZE]).unwrap();
     assert_eq!(wipe(&map, &image, claimed.id, 1).0, Some(0));
     let mut expected = vec![7; DISC_SIZE];
-    let (first, length) = (claimed.start as usize, claimed.length as usize);
+    let [first, length] = piece.map(|entry| entry as usize);
     expected[first * 1_024..(first + length) * 1_024].fill(1);
     assert!(fs::read(&image).unwrap() == expected);
 }

@@ -2,7 +2,7 @@
 -- be met by a program that refuses always, that gives one answer always or that writes nothing, nor a sweep's by one that writes
 -- everywhere. The contracts are the promises of the calls themselves. Assumes nothing.
 use mathlib.Core.List.{List, []}
-use Prim.Native.Nat.{ℕ}
+use Prim.Native.Nat.{ℕ, _≤_}
 use lib.ListN.{length, replicate}
 use Rattle.geometry.specs.declared.Refusal.{Refusal}
 use Rattle.map.specs.Checked.{Checks}
@@ -21,7 +21,7 @@ use Rattle.release.specs.Released.{Releases}
 use Rattle.place.specs.Placed.{Places}
 use Rattle.place.specs.declared.Placed.{Placed}
 use Rattle.place.specs.declared.Placed.the-variants as given
-use Rattle.claim.specs.Claimed.{Claims}
+use Rattle.claim.specs.Claimed.{Claims, claimNumbers}
 use Rattle.claim.specs.declared.Claimed.{Claimed}
 use Rattle.claim.specs.declared.Claimed.the-variants as taken
 use Rattle.copies.specs.Copies.{Chooses, CopiesOver, TellsAddresses}
@@ -81,9 +81,15 @@ releasedList m h r new = Releases m (h .0) (h .1) (r .0) (r .1) new
 abbrev pub places : Contract (ℕ × List ℕ) Placed (List ℕ)
 places m h r after = Places m (h .0) (h .1) r after
 
--- size, parent zone
-abbrev pub claims : Contract (ℕ × ℕ) Claimed (List ℕ)
-claims m h r after = Claims m (h .0) (h .1) r after
+-- size, parent zone; a claim leaves a map and a list, as a release does
+abbrev pub claims : Contract (ℕ × ℕ × List ℕ) Claimed (List ℕ × List ℕ)
+claims m h r l = Claims m (h .0) (h .1) (h .2) r (l .0) (l .1)
+
+abbrev pub claimedMap : Contract (ℕ × ℕ × List ℕ) (Claimed × List ℕ) (List ℕ)
+claimedMap m h r after = Claims m (h .0) (h .1) (h .2) (r .0) after (r .1)
+
+abbrev pub claimedList : Contract (ℕ × ℕ × List ℕ) (Claimed × List ℕ) (List ℕ)
+claimedList m h r new = Claims m (h .0) (h .1) (h .2) (r .0) (r .1) new
 
 -- the second copy is handed in with the first: refusal, zone and which are the answer; then the part handed back and the equality, each with
 -- the other among the answers
@@ -122,9 +128,11 @@ pub record EmptyPrograms : Type 0 where
   pub place : NoEmptyAnswer given.Refused places
   pub place-edits-nothing : Leaves (λ m h. m) places → ⊥
   pub claim : NoEmptyAnswer taken.Refused claims
-  pub claim-edits-nothing : Leaves (λ m h. m) claims → ⊥
-  -- a claim that does the same whatever the parent zone is
-  pub claim-by-size : ((m : List ℕ) (size : ℕ) → (a : Claimed) × (after : List ℕ) × ((parent : ℕ) → claims m (size, parent) a after)) → ⊥
+  pub claim-edits-nothing : Leaves (λ m h. m) claimedMap → ⊥
+  pub claim-writes-nothing : Leaves (λ m h. h .2) claimedList → ⊥
+  -- a claim that does the same whatever the parent zone is; one that never gives more than one pair
+  pub claim-by-size : ((m : List ℕ) (size : ℕ) (old : List ℕ) → (a : Claimed) × (l : List ℕ × List ℕ) × ((parent : ℕ) → claims m (size, parent, old) a l)) → ⊥
+  pub claim-one-pair : ((m : List ℕ) (h : ℕ × ℕ × List ℕ) → (a : Claimed) × (l : List ℕ × List ℕ) × claims m h a l × (claimNumbers a .3 ≤ 1)) → ⊥
   -- the two copies: nothing handed back, always the first, always the second; never told equal, always told equal
   pub choose : NoEmptyAnswer (λ r. (r .number, r .zone, 0)) chooses
   pub choose-nothing : Leaves (λ a b. []) handsBack → ⊥

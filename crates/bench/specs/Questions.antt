@@ -13,10 +13,10 @@ use Rattle.map.specs.Checked.{checked, checkNumbers}
 use Rattle.listing.specs.Listed.{objectFound, freeFound, listAnswer, listAfter, listNumbers}
 use Rattle.address.specs.Address.{locationFound, addressAnswer, addressNumbers}
 use Rattle.sweep.specs.Sweep.{Class, objectSweep, freeSweep, sweepAnswer, sweepNumbers, imageAfter}
+use Rattle.edits.specs.Edits.{Edit}
 use Rattle.edits.specs.Judge.{Call, need}
 use Rattle.edits.specs.Judge as call
-use Rattle.edits.specs.Steps.{outcome, step}
-use Rattle.release.specs.Released.{pairsTaken}
+use Rattle.edits.specs.Steps.{outcome, pairsTold, step}
 use Rattle.place.specs.Placed.{placeNumbers}
 use Rattle.place.specs.Placed as placed
 use Rattle.claim.specs.Claimed.{claimNumbers}
@@ -37,7 +37,7 @@ pub data Question : Type 0 where
   countedFree : List ℕ → ℕ → ℕ → Question
   release : List ℕ → ℕ → List ℕ → Question
   place : List ℕ → ℕ → List ℕ → Question
-  claim : List ℕ → ℕ → ℕ → Question
+  claim : List ℕ → ℕ → ℕ → List ℕ → Question
   choose : List ℕ → List ℕ → Question
   copyOver : List ℕ → List ℕ → Question
   copyAddresses : List ℕ → Question
@@ -58,12 +58,13 @@ three n = n .0 ∷ n .1 ∷ n .2 ∷ []
 abbrev pub four : ℕ × ℕ × ℕ × ℕ → List ℕ
 four n = n .0 ∷ n .1 ∷ n .2 ∷ n .3 ∷ []
 
-abbrev pub five : ℕ × ℕ × ℕ × ℕ × ℕ → List ℕ
-five n = n .0 ∷ n .1 ∷ n .2 ∷ n .3 ∷ n .4 ∷ []
-
 -- refusal, zone and pairs, and the lent list afterwards
 abbrev pub listed : List ℕ → Answer (List Pair) → List ℕ
 listed old found = three (listNumbers (listAnswer found)) ++ listAfter old found
+
+-- the same of a claim, with the id before the pairs
+abbrev pub claimedList : List ℕ → Answer Edit → List ℕ
+claimedList old found = four (claimNumbers (claimed.claimAnswer found)) ++ listAfter old (pairsTold found)
 
 -- refusal, zone and count of a stretch of n bytes
 abbrev pub sweepCount : ℕ → ℕ → Answer Class → List ℕ
@@ -83,9 +84,9 @@ answer (sweepObject m id first fill old) = swept first fill old (objectSweep m i
 answer (sweepFree m first fill old) = swept first fill old (freeSweep m first (length old))
 answer (counted m id first n) = sweepCount first n (objectSweep m id first n)
 answer (countedFree m first n) = sweepCount first n (freeSweep m first n)
-answer (release m id old) = listed old (pairsTaken (outcome m (call.release id (length old))))
+answer (release m id old) = listed old (pairsTold (outcome m (call.release id (length old))))
 answer (place m id l) = two (placeNumbers (placed.placeAnswer (outcome m (call.place id l))))
-answer (claim m size parent) = five (claimNumbers (claimed.claimAnswer (outcome m (call.claim size parent))))
+answer (claim m size parent old) = claimedList old (outcome m (call.claim size parent (length old)))
 answer (choose a b) = four (choiceTold (copyFound a b) (sameBytes a b)) ++ handedBack a b
 answer (copyOver s t) = two (copyNumbers (copyAnswer (copyJudged s t))) ++ targetAfter t (copyJudged s t)
 answer (copyAddresses m) = four (addressesNumbers (addressesAnswer (addressesFound m)))

@@ -124,11 +124,11 @@ table =
     ∷ row (place mapA 5 (24 ∷ 12 ∷ [])) (0 ∷ 0 ∷ [])
     -- "A, claim: 1 byte gives id 3, (12,12); 1,548,288 gives (12,1512); 1,548,289 gives (12,1524); 1,560,576 gives (12,1524); one
     -- more 15." "The claim examples read "parent zone 0"" (document 02, R-6), and so do our own where nothing else is said.
-    ∷ row (claim mapA 1 0) (0 ∷ 0 ∷ 3 ∷ 12 ∷ 12 ∷ [])
-    ∷ row (claim mapA 1548288 0) (0 ∷ 0 ∷ 3 ∷ 12 ∷ 1512 ∷ [])
-    ∷ row (claim mapA 1548289 0) (0 ∷ 0 ∷ 3 ∷ 12 ∷ 1524 ∷ [])
-    ∷ row (claim mapA 1560576 0) (0 ∷ 0 ∷ 3 ∷ 12 ∷ 1524 ∷ [])
-    ∷ row (claim mapA 1560577 0) (15 ∷ 0 ∷ 0 ∷ 0 ∷ 0 ∷ [])
+    ∷ row (claim mapA 1 0 lent) (0 ∷ 0 ∷ 3 ∷ 1 ∷ 12 ∷ 12 ∷ 9 ∷ 9 ∷ [])
+    ∷ row (claim mapA 1548288 0 lent) (0 ∷ 0 ∷ 3 ∷ 1 ∷ 12 ∷ 1512 ∷ 9 ∷ 9 ∷ [])
+    ∷ row (claim mapA 1548289 0 lent) (0 ∷ 0 ∷ 3 ∷ 1 ∷ 12 ∷ 1524 ∷ 9 ∷ 9 ∷ [])
+    ∷ row (claim mapA 1560576 0 lent) (0 ∷ 0 ∷ 3 ∷ 1 ∷ 12 ∷ 1524 ∷ 9 ∷ 9 ∷ [])
+    ∷ row (claim mapA 1560577 0 lent) (15 ∷ 0 ∷ 0 ∷ 0 ∷ lent)
     -- "B, address: 0x000503 at 0 is 12,800; 0x000500 and 0x000501 at 19,967 both give 32,255; 0x000503 at 19,968 is refused with 16."
     -- "the address examples gain this number: for map B, 0x000503 at 0 has 19,968" (document 02, R-11).
     ∷ row (address mapB 0x000503 0) (0 ∷ 0 ∷ 12800 ∷ 19968 ∷ [])
@@ -155,14 +155,14 @@ table =
     ∷ row (after mapA (call.place 5 (12 ∷ 20 ∷ []))) mapB
     ∷ row (after mapA (call.place 4 (24 ∷ 12 ∷ []))) mapC
     -- A claim edits as a place of its pair: 20 map bits of A for object 3.
-    ∷ row (claim mapA 20480 0) (0 ∷ 0 ∷ 3 ∷ 12 ∷ 20 ∷ [])
-    ∷ row (after mapA (call.claim 20480 0)) (withBytes ((0, 0x08) ∷ (65, 0x38) ∷ []) mapB)
+    ∷ row (claim mapA 20480 0 lent) (0 ∷ 0 ∷ 3 ∷ 1 ∷ 12 ∷ 20 ∷ 9 ∷ 9 ∷ [])
+    ∷ row (after mapA (call.claim 20480 0 4)) (withBytes ((0, 0x08) ∷ (65, 0x38) ∷ []) mapB)
     -- The lowest unused id of B is 3, and its first hole starts after 5.
-    ∷ row (claim mapB 12289 0) (0 ∷ 0 ∷ 3 ∷ 32 ∷ 13 ∷ [])
+    ∷ row (claim mapB 12289 0 lent) (0 ∷ 0 ∷ 3 ∷ 1 ∷ 32 ∷ 13 ∷ 9 ∷ 9 ∷ [])
     -- C has two holes, (12,12) and (36,1500), and object 4: the first hole that is long enough is taken, and the lowest unused id.
     ∷ row (free mapC lent) (0 ∷ 0 ∷ 2 ∷ 12 ∷ 12 ∷ 36 ∷ 1500 ∷ [])
-    ∷ row (claim mapC 1 0) (0 ∷ 0 ∷ 3 ∷ 12 ∷ 12 ∷ [])
-    ∷ row (claim mapC 12289 0) (0 ∷ 0 ∷ 3 ∷ 36 ∷ 13 ∷ [])
+    ∷ row (claim mapC 1 0 lent) (0 ∷ 0 ∷ 3 ∷ 1 ∷ 12 ∷ 12 ∷ 9 ∷ 9 ∷ [])
+    ∷ row (claim mapC 12289 0 lent) (0 ∷ 0 ∷ 3 ∷ 1 ∷ 36 ∷ 13 ∷ 9 ∷ 9 ∷ [])
     -- Records and maps that are refused: no bytes, a disc_size past what the map holds, a zone check that differs.
     ∷ row (record-read []) (1 ∷ 0 ∷ [])
     ∷ row (record-read (withBytes ((23, 0x01) ∷ []) mapA)) (2 ∷ 0 ∷ [])
@@ -181,7 +181,7 @@ table =
     ∷ row (check (withBytes ((256, 0x2F) ∷ (257, 0x25) ∷ []) mapD)) (5 ∷ 1 ∷ [])
     ∷ row (check (withBytes ((256, 0xAE) ∷ (511, 0x00) ∷ []) mapD)) (6 ∷ 1 ∷ [])
     ∷ row (check (withBytes ((256, 0x2F) ∷ (260, 0x03) ∷ []) mapD)) (7 ∷ 1 ∷ [])
-    ∷ row (claim touchingD 1 0) (9 ∷ 1 ∷ 0 ∷ 0 ∷ 0 ∷ [])
+    ∷ row (claim touchingD 1 0 lent) (9 ∷ 1 ∷ 0 ∷ 0 ∷ lent)
     ∷ row (place touchingD 3 (0 ∷ 12 ∷ [])) (9 ∷ 1 ∷ [])
     ∷ row (release touchingD 3 lent) (9 ∷ 1 ∷ 0 ∷ 9 ∷ 9 ∷ 9 ∷ 9 ∷ [])
     -- An edit of one of two zones leaves the other's block and all cross checks alone; one of both changes both cross checks by 1. A
@@ -286,8 +286,8 @@ table =
     -- Ids of 19 bits: a fragment has 20 bits or more, and a claim writes all of its id.
     ∷ row (list longIds 2 lent) (0 ∷ 0 ∷ 1 ∷ 0 ∷ 20 ∷ 9 ∷ 9 ∷ [])
     ∷ row (free longIds lent) (0 ∷ 0 ∷ 1 ∷ 20 ∷ 1516 ∷ 9 ∷ 9 ∷ [])
-    ∷ row (claim longIds 1 0) (0 ∷ 0 ∷ 3 ∷ 20 ∷ 20 ∷ [])
-    ∷ row (after longIds (call.claim 1 0)) (withBytes ((0, 0x38) ∷ (1, 0x20) ∷ (66, 0x38) ∷ (68, 0x80) ∷ []) longIds)
+    ∷ row (claim longIds 1 0 lent) (0 ∷ 0 ∷ 3 ∷ 1 ∷ 20 ∷ 20 ∷ 9 ∷ 9 ∷ [])
+    ∷ row (after longIds (call.claim 1 0 2)) (withBytes ((0, 0x38) ∷ (1, 0x20) ∷ (66, 0x38) ∷ (68, 0x80) ∷ []) longIds)
     -- The two copies (document 02, R-5). The first where it is accepted, equal to the second or not; else the second; else the first's refusal
     -- and no bytes. Whether they are equal is told of refused ones too; no bytes twice are.
     ∷ row (choose mapA mapB) (0 ∷ 0 ∷ 1 ∷ 0 ∷ mapA)
@@ -317,32 +317,49 @@ table =
     ∷ row (choose (written 512 mapG mapF) mapG) (0 ∷ 0 ∷ 1 ∷ 0 ∷ written 512 mapG mapF)
     ∷ row (list (written 512 mapG mapF) 5 lent) (0 ∷ 0 ∷ 2 ∷ 0 ∷ 12 ∷ 1536 ∷ 12 ∷ [])
     -- Claims near a parent zone (document 02, R-6). F has a hole of 1,536 bits in zone 0, of 2,016 in zones 1 and 3 and of 2,004 in zone 2: the parent's
-    -- own is taken where it is long enough; of two at the same distance the lower zone's; the id is the lowest of the hole's zone. 15 where
-    -- none is long enough. No zone 4: 12, beside 0 bytes, after 9 and before 15.
-    ∷ row (claim mapF 1 0) (0 ∷ 0 ∷ 3 ∷ 0 ∷ 12 ∷ [])
-    ∷ row (claim mapF 1 2) (0 ∷ 0 ∷ 336 ∷ 3564 ∷ 12 ∷ [])
-    ∷ row (claim mapF 1 3) (0 ∷ 0 ∷ 504 ∷ 5568 ∷ 12 ∷ [])
-    ∷ row (claim mapF 1573888 0) (0 ∷ 0 ∷ 168 ∷ 1536 ∷ 1537 ∷ [])
-    ∷ row (claim mapF 2064384 2) (0 ∷ 0 ∷ 168 ∷ 1536 ∷ 2016 ∷ [])
-    ∷ row (claim mapF 2064384 3) (0 ∷ 0 ∷ 504 ∷ 5568 ∷ 2016 ∷ [])
-    ∷ row (claim mapF 2064385 2) (15 ∷ 0 ∷ 0 ∷ 0 ∷ 0 ∷ [])
-    ∷ row (claim mapF 1 4) (12 ∷ 0 ∷ 0 ∷ 0 ∷ 0 ∷ [])
-    ∷ row (claim mapA 1 4294967295) (12 ∷ 0 ∷ 0 ∷ 0 ∷ 0 ∷ [])
-    ∷ row (claim mapA 1560577 1) (12 ∷ 0 ∷ 0 ∷ 0 ∷ 0 ∷ [])
-    ∷ row (claim touchingD 1 2) (9 ∷ 1 ∷ 0 ∷ 0 ∷ 0 ∷ [])
+    -- own is taken where it is long enough; of two at the same distance the lower zone's; the id is the lowest of the hole's zone. No zone
+    -- 4: 12, beside 0 bytes, after 9 and before 15.
+    ∷ row (claim mapF 1 0 lent) (0 ∷ 0 ∷ 3 ∷ 1 ∷ 0 ∷ 12 ∷ 9 ∷ 9 ∷ [])
+    ∷ row (claim mapF 1 2 lent) (0 ∷ 0 ∷ 336 ∷ 1 ∷ 3564 ∷ 12 ∷ 9 ∷ 9 ∷ [])
+    ∷ row (claim mapF 1 3 lent) (0 ∷ 0 ∷ 504 ∷ 1 ∷ 5568 ∷ 12 ∷ 9 ∷ 9 ∷ [])
+    ∷ row (claim mapF 1573888 0 lent) (0 ∷ 0 ∷ 168 ∷ 1 ∷ 1536 ∷ 1537 ∷ 9 ∷ 9 ∷ [])
+    ∷ row (claim mapF 2064384 2 lent) (0 ∷ 0 ∷ 168 ∷ 1 ∷ 1536 ∷ 2016 ∷ 9 ∷ 9 ∷ [])
+    ∷ row (claim mapF 2064384 3 lent) (0 ∷ 0 ∷ 504 ∷ 1 ∷ 5568 ∷ 2016 ∷ 9 ∷ 9 ∷ [])
+    ∷ row (claim mapF 1 4 lent) (12 ∷ 0 ∷ 0 ∷ 0 ∷ lent)
+    ∷ row (claim mapA 1 4294967295 lent) (12 ∷ 0 ∷ 0 ∷ 0 ∷ lent)
+    ∷ row (claim mapA 1560577 1 lent) (12 ∷ 0 ∷ 0 ∷ 0 ∷ lent)
+    ∷ row (claim touchingD 1 2 lent) (9 ∷ 1 ∷ 0 ∷ 0 ∷ lent)
+    -- Claims in several pieces (document 02, R-8). Zones 1 and 3 of F have the largest holes: the lower one goes first, and its zone is the id's, wherever the
+    -- parent is. Where 1 bit remains m are taken. Room for one entry less: 17.
+    ∷ row (claim mapF 2064385 2 lent) (0 ∷ 0 ∷ 168 ∷ 2 ∷ 1536 ∷ 2016 ∷ 5568 ∷ 12 ∷ [])
+    ∷ row (claim mapF 2064385 2 (9 ∷ 9 ∷ 9 ∷ [])) (17 ∷ 0 ∷ 0 ∷ 0 ∷ 9 ∷ 9 ∷ 9 ∷ [])
+    -- Of the second hole m bits are left; 6 would be left, so that all of it goes; nothing is left, and nothing more is taken.
+    ∷ row (claim mapF 4116480 0 lent) (0 ∷ 0 ∷ 168 ∷ 2 ∷ 1536 ∷ 2016 ∷ 5568 ∷ 2004 ∷ [])
+    ∷ row (claim mapF 4122624 0 lent) (0 ∷ 0 ∷ 168 ∷ 2 ∷ 1536 ∷ 2016 ∷ 5568 ∷ 2016 ∷ [])
+    ∷ row (claim mapF 4128768 0 lent) (0 ∷ 0 ∷ 168 ∷ 2 ∷ 1536 ∷ 2016 ∷ 5568 ∷ 2016 ∷ [])
+    -- A byte more: the third hole's piece stands between the two in object order, and three zones' cross checks change by 1, 2, 3.
+    ∷ row (after mapF (call.claim 4128769 0 6))
+    (withBytes
+    ((256, 0xA9) ∷ (257, 0x00) ∷ (259, 0x01) ∷ (260, 0xA8)
+    ∷ (512, 0x33) ∷ (513, 0x30) ∷ (515, 0x02) ∷ (517, 0x88) ∷ (518, 0x8A)
+    ∷ (768, 0xAB) ∷ (769, 0x00) ∷ (771, 0x03) ∷ (772, 0xA8) ∷ [])
+    mapF)
+    -- All free bits, listed round the disc's end; a byte more is 15.
+    ∷ row (claim mapF 7753728 0 (lent ++ lent)) (0 ∷ 0 ∷ 168 ∷ 4 ∷ 1536 ∷ 2016 ∷ 3564 ∷ 2004 ∷ 5568 ∷ 2016 ∷ 0 ∷ 1536 ∷ [])
+    ∷ row (claim mapF 7753729 0 (lent ++ lent)) (15 ∷ 0 ∷ 0 ∷ 0 ∷ lent ++ lent)
     -- A map that is a byte too long; object 3 where A's middle zone has to begin with 2.
     ∷ row (check (mapA ++ 0 ∷ [])) (1 ∷ 0 ∷ [])
     ∷ row (check (withBytes ((0, 0xC4) ∷ (64, 0x03) ∷ []) mapA)) (7 ∷ 0 ∷ [])
     -- A list is read to its end. No size wraps. A cluster of 4,096 bytes.
     ∷ row (place mapA 5 (12 ∷ 12 ∷ 0 ∷ 0 ∷ [])) (12 ∷ 0 ∷ [])
-    ∷ row (claim mapA 4294967297 0) (15 ∷ 0 ∷ 0 ∷ 0 ∷ 0 ∷ [])
+    ∷ row (claim mapA 4294967297 0 lent) (15 ∷ 0 ∷ 0 ∷ 0 ∷ lent)
     ∷ row (bitsFor (geometryOf (withBytes ((9, 0x0C) ∷ []) mapA)) 61441) (16 ∷ [])
     -- Three, four and seven zones.
     ∷ row (change (true ∷ true ∷ true ∷ [])) (1 ∷ 2 ∷ 3 ∷ [])
     ∷ row (change (true ∷ true ∷ true ∷ true ∷ [])) (1 ∷ 1 ∷ 1 ∷ 1 ∷ [])
     ∷ row (change (true ∷ true ∷ true ∷ true ∷ true ∷ true ∷ true ∷ [])) (1 ∷ 2 ∷ 3 ∷ 1 ∷ 1 ∷ 1 ∷ 1 ∷ [])
     -- Refusals that the rows above leave out: 0 bytes, an id already there, too few entries, a list out of object order.
-    ∷ row (claim mapB 0 0) (12 ∷ 0 ∷ 0 ∷ 0 ∷ 0 ∷ [])
+    ∷ row (claim mapB 0 0 lent) (12 ∷ 0 ∷ 0 ∷ 0 ∷ lent)
     ∷ row (place mapB 5 (32 ∷ 12 ∷ [])) (11 ∷ 0 ∷ [])
     ∷ row (release mapB 5 (9 ∷ [])) (17 ∷ 0 ∷ 0 ∷ 9 ∷ [])
     ∷ row (free mapC (9 ∷ 9 ∷ 9 ∷ [])) (17 ∷ 0 ∷ 0 ∷ 9 ∷ 9 ∷ 9 ∷ [])

@@ -1,7 +1,7 @@
 -- What each call's promise comes to in the table's numbers, refused and accepted, and what it leaves of what it was lent. It is stated of the
 -- promises themselves, so that nothing between what is found and what is told can say something else. Assumes nothing.
 use mathlib.Core.Path.{_≡_}
-use mathlib.Core.List.{List, [], _∷_, _++_}
+use mathlib.Core.List.{List, [], _++_}
 use Prim.Native.Nat.{ℕ, _*_}
 use lib.ListN.{length, take, drop}
 use Rattle.model.specs.Answer.{Answer, refused, answered}
@@ -61,9 +61,10 @@ pub record PlaceTells (m : List ℕ) (id : ℕ) (list : List ℕ) (r : Placed) (
   pub refused-told : (n z : ℕ) → outcome m (place id list) ≡ refused n z → (placeNumbers r ≡ (n, z)) × (after ≡ m)
   pub accepted-told : (e : Edit) → outcome m (place id list) ≡ answered e → placeNumbers r ≡ (0, 0)
 
-pub record ClaimTells (m : List ℕ) (size parent : ℕ) (r : Claimed) (after : List ℕ) : Type 0 where
-  pub refused-told : (n z : ℕ) → outcome m (claim size parent) ≡ refused n z → (claimNumbers r ≡ (n, z, 0, 0, 0)) × (after ≡ m)
-  pub accepted-told : (id : ℕ) (q : Pair) → outcome m (claim size parent) ≡ answered (gives id (q ∷ [])) → claimNumbers r ≡ (0, 0, id, q .start, q .len)
+pub record ClaimTells (m : List ℕ) (size parent : ℕ) (old : List ℕ) (r : Claimed) (after new : List ℕ) : Type 0 where
+  pub refused-told : (n z : ℕ) → outcome m (claim size parent (length old)) ≡ refused n z → (claimNumbers r ≡ (n, z, 0, 0)) × (new ≡ old) × (after ≡ m)
+  pub accepted-told : (id : ℕ) (qs : List Pair) → outcome m (claim size parent (length old)) ≡ answered (gives id qs)
+      → (claimNumbers r ≡ (0, 0, id, length qs)) × (new ≡ numbersOf qs ++ drop (2 * length qs) old)
 
 -- the two copies: refusal, zone, which, equal; "hand back the part that is an accepted map", or "an empty part"
 pub record ChoiceTells (a b : List ℕ) (told : ℕ × ℕ × ℕ × ℕ) (handed : List ℕ) : Type 0 where
@@ -89,7 +90,7 @@ pub record AnswersTold : Type 0 where
       → Sweeps found first fill old r new → SweepTells found first fill old r new
   pub releases : (m : List ℕ) (id : ℕ) (old : List ℕ) (r : Listed) (after new : List ℕ) → Releases m id old r after new → ReleaseTells m id old r after new
   pub places : (m : List ℕ) (id : ℕ) (list : List ℕ) (r : Placed) (after : List ℕ) → Places m id list r after → PlaceTells m id list r after
-  pub claims : (m : List ℕ) (size parent : ℕ) (r : Claimed) (after : List ℕ) → Claims m size parent r after → ClaimTells m size parent r after
+  pub claims : (m : List ℕ) (size parent : ℕ) (old : List ℕ) (r : Claimed) (after new : List ℕ) → Claims m size parent old r after new → ClaimTells m size parent old r after new
   pub chooses : (a b : List ℕ) (told : ℕ × ℕ × ℕ × ℕ) (handed : List ℕ) → Chooses a b told handed → ChoiceTells a b told handed
   pub copies : (source target : List ℕ) (r : Copied) (after : List ℕ) → CopiesOver source target r after → CopyTells source target r after
   pub locates : (m : List ℕ) (r : Located) → TellsAddresses m r → AddressesTells (addressesFound m) r
@@ -98,3 +99,8 @@ pub record AnswersTold : Type 0 where
   pub returned-placed : (m : List ℕ) → Editable m → (id : ℕ) (old : List ℕ) (r : Listed) (after new : List ℕ) → Releases m id old r after new
       → (qs : List Pair) → outcome m (release id (length old)) ≡ answered (takes id qs)
       → (s : Placed) (end : List ℕ) → Places after id (take (2 * length qs) new) s end → (placeNumbers s ≡ (0, 0)) × (end ≡ m)
+  -- "An accepted place or claim followed at once by its release, again with room, does the same": of the promises of a claim and of a release that is lent the
+  -- same room.
+  pub claimed-released : (m : List ℕ) → Editable m → (size parent : ℕ) (old : List ℕ) (r : Claimed) (after new : List ℕ) → Claims m size parent old r after new
+      → (id : ℕ) (qs : List Pair) → outcome m (claim size parent (length old)) ≡ answered (gives id qs)
+      → (s : Listed) (end list : List ℕ) → Releases after id new s end list → (listNumbers s ≡ (0, 0, length qs)) × (list ≡ new) × (end ≡ m)

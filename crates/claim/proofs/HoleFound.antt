@@ -1,5 +1,6 @@
 -- The first hole that is long enough. In a zone, one line at a time: the line's pair, if it is free and long enough, or else that of the lines
--- that remain. In the zones by their distance, one distance at a time: that of the zones at this distance, or else of those further away.
+-- that remain. In the zones by their distance, one distance at a time: that of the zones at this distance, or else of those further away. If there
+-- is none, the longest of all is the first that is taken.
 use mathlib.Core.Path.{_≡_, refl, sym, ap, ap₂, _∙_}
 use mathlib.Core.Bool.{Bool, true, false, _&&_, false≢true}
 use mathlib.Core.List.{List, _++_, append-nil}
@@ -7,13 +8,14 @@ use mathlib.Core.Option.{Option, none, some}
 use Prim.Native.Nat.{ℕ, suc, _+_, _-_, _<_, _≤_}
 use native.Mathlib.Omega.{arith}
 use lib.Dec.{eqb, ltb, leb}
+use borrow.Author.Tests.{le-leb, lt-leb}
 use Rattle.geometry.specs.declared.Geometry.{Geometry}
 use Rattle.geometry.specs.declared.DiscBit.{DiscBit}
 use Rattle.model.specs.Chain.{Pair}
 use Rattle.model.specs.Pieces.{Piece}
 use Rattle.edits.specs.Near.{zoneIf, zonesAt, zonesFrom}
 use Rattle.edits.specs.Holes.{holesIn, holesOf}
-use Rattle.edits.specs.Judge.{firstHole}
+use Rattle.edits.specs.Judge.{firstHole, holesNear}
 use Rattle.edits.specs.EditableMap.{EditableMap}
 use Rattle.model.specs.Shown.{piecesOn}
 use Rattle.walk.specs.declared.Walk.{Walk}
@@ -21,7 +23,12 @@ use Rattle.walk.specs.declared.Step.{Step}
 use Rattle.walk.specs.Remaining.{remaining, Starts, Advances}
 use Rattle.walk.specs.HeldBy.{pairIf, heldLines, heldIn, heldFrom}
 use Rattle.walk.proofs.HeldLines.{held-starts, held-step}
+use Rattle.split.specs.Taken.{total}
+use Rattle.holes.specs.declared.AllHoles.{AllHoles}
+use Rattle.holes.specs.Passes.{holesOn, Surveyed}
 use Rattle.claim.specs.Hole.{holeOf}
+use Rattle.claim.specs.Chosen.{largestOr, firstTaken}
+use Rattle.claim.specs.declared.Hole.{Hole}
 use Rattle.claim.specs.declared.Hole.the-variants as found
 use Rattle.edits.proofs.Found.{orElse, first-of}
 use Rattle.claim.proofs.HolesFree.{holes-are-free}
@@ -88,3 +95,19 @@ module _ (g : Geometry) (l : List Piece) (need p d : ℕ) (k : d < g .zones) (o 
 
 pub none-further : (g : Geometry) (l : List Piece) (need p d : ℕ) → g .zones ≤ d → firstHole need (holesOf g l (zonesFrom (g .zones) p d (g .zones - d))) ≡ none
 none-further g l need p d k = let n : g .zones - d ≡ 0 = omega arith in ap (λ (x : ℕ). firstHole need (holesOf g l (zonesFrom (g .zones) p d x))) n
+
+-- the first hole taken: that one, or the survey's where there is none
+module _ (g : Geometry) (m : List ℕ) (need parent : ℕ) {hole : Hole} (e : hole ≡ holeOf (firstHole need (holesNear g (piecesOn g m) parent))) where
+  pub nearest-taken : (s : DiscBit) (n : ℕ) → hole ≡ found.At s n → found.At s n ≡ holeOf (firstTaken g m need parent)
+  nearest-taken s n k = sym (ap (λ (o : Option Pair). holeOf (largestOr need (holesOn g m) o)) (hole-at (firstHole need (holesNear g (piecesOn g m) parent)) s n (sym e ∙ k)))
+
+  module _ (k : hole ≡ found.None) {r : AllHoles} (s : Surveyed (holesOn g m) r) where
+    none-near : holeOf (firstTaken g m need parent) ≡ holeOf (largestOr need (holesOn g m) none)
+    none-near = ap (λ (o : Option Pair). holeOf (largestOr need (holesOn g m) o)) (no-hole (firstHole need (holesNear g (piecesOn g m) parent)) (sym e ∙ k))
+
+    pub too-few-taken : r .bits < need → found.None ≡ holeOf (firstTaken g m need parent)
+    too-few-taken j = sym (none-near ∙ rw (lt-leb need (total (holesOn g m)) (omega (arith, s .bits))))
+
+    pub longest-taken : need ≤ r .bits → found.At (r .start) (r .len) ≡ holeOf (firstTaken g m need parent)
+    longest-taken j =
+        ap (λ (q : Pair). holeOf (some q)) (s .longest) ∙ sym (none-near ∙ rw (le-leb need (total (holesOn g m)) (omega (arith, s .bits))))

@@ -2,7 +2,10 @@ pub mod NeedBits
 pub mod Cleared
 pub mod LowestFound
 pub mod ZoneIds
-pub mod Answers
-pub mod HoleFound
 pub mod HolesFree
-pub mod PieceGiven
+pub mod HoleFound
+pub mod FirstTaken
+pub mod TakenListed
+pub mod Choosing
+pub mod ListGiven
+pub mod Answers

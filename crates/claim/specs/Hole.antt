@@ -1,4 +1,4 @@
--- The first hole that is long enough (document 01, "Claim"). Assumes nothing.
+-- A hole that was looked for, or none (document 01, "Claim"; document 02, R-8). Assumes nothing.
 use mathlib.Core.Option.{Option, none, some}
 use Rattle.model.specs.Chain.{Pair}
 use Rattle.claim.specs.declared.Hole.{Hole}

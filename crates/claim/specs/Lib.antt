@@ -2,3 +2,4 @@ pub mod Claimed
 pub mod Unused
 pub mod Given
 pub mod Hole
+pub mod Chosen

@@ -3,9 +3,13 @@ use mathlib.Core.Path.{_≡_, refl, sym, ap, _∙_}
 use mathlib.Core.Bool.{Bool, true}
 use mathlib.Core.List.{List, [], _∷_, _++_, map}
 use mathlib.Core.Logic.{_⊎_, inl, inr}
+use Prim.Native.Nat.{_+_, _≤_}
+use native.Mathlib.Omega.{arith}
 use lib.Dec.{ltb}
 use Rattle.bits.proofs.Tests.{by-test}
+use Rattle.model.specs.Chain.{Pair}
 use Rattle.model.specs.Pieces.{Piece, keep}
+use Rattle.split.specs.Taken.{total, putBy, sortBy}
 use Rattle.edits.specs.Edits.{insert, put}
 use Rattle.edits.specs.Room.{In, Earlier}
 use Rattle.edits.proofs.Kept.{All}
@@ -117,3 +121,45 @@ put-in h (p ∷ ps) l i = go (put-in h ps l) (insert-in h p (put ps l) i)
     go : (In h (put ps l) → In h ps ⊎ In h l) → (h ≡ p) ⊎ In h (put ps l) → In h (p ∷ ps) ⊎ In h l
     go ih (inl e) = inl (inl e)
     go ih (inr i) = step (ih i)
+
+-- stretches sorted, by whatever test
+module _ (t : Pair → Pair → Bool) where
+  pub put-by-in : (h q : Pair) (l : List Pair) → In h (putBy t q l) → (h ≡ q) ⊎ In h l
+  put-by-in h q [] i = i
+  put-by-in h q (x ∷ xs) i = by-test (t q x) (λ k. simp k at i) (λ k. go (put-by-in h q xs) (simp k at i))
+    where
+      swap : (h ≡ q) ⊎ In h xs → (h ≡ q) ⊎ In h (x ∷ xs)
+      swap (inl e) = inl e
+      swap (inr j) = inr (inr j)
+
+      go : (In h (putBy t q xs) → (h ≡ q) ⊎ In h xs) → In h (x ∷ putBy t q xs) → (h ≡ q) ⊎ In h (x ∷ xs)
+      go ih (inl e) = inr (inl e)
+      go ih (inr j) = swap (ih j)
+
+  in-put-by : (h q : Pair) (l : List Pair) → (h ≡ q) ⊎ In h l → In h (putBy t q l)
+  in-put-by h q [] i = i
+  in-put-by h q (x ∷ xs) i = by-test (t q x) (λ k. simp k i) (λ k. simp k (go (in-put-by h q xs) i))
+    where
+      go : ((h ≡ q) ⊎ In h xs → In h (putBy t q xs)) → (h ≡ q) ⊎ In h (x ∷ xs) → In h (x ∷ putBy t q xs)
+      go ih (inl e) = inr (ih (inl e))
+      go ih (inr (inl e)) = inl e
+      go ih (inr (inr j)) = inr (ih (inr j))
+
+  pub in-sorted : (h : Pair) (l : List Pair) → In h l → In h (sortBy t l)
+  in-sorted h [] i = i
+  in-sorted h (q ∷ qs) (inl e) = in-put-by h q (sortBy t qs) (inl e)
+  in-sorted h (q ∷ qs) (inr i) = in-put-by h q (sortBy t qs) (inr (in-sorted h qs i))
+
+  pub sorted-in : (h : Pair) (l : List Pair) → In h (sortBy t l) → In h l
+  sorted-in h [] i = i
+  sorted-in h (q ∷ qs) i = go (sorted-in h qs) (put-by-in h q (sortBy t qs) i)
+    where
+      go : (In h (sortBy t qs) → In h qs) → (h ≡ q) ⊎ In h (sortBy t qs) → (h ≡ q) ⊎ In h qs
+      go ih (inl e) = inl e
+      go ih (inr j) = inr (ih j)
+
+-- the bits of one are no more than those of all
+pub total-in : (h : Pair) (l : List Pair) → In h l → h .len ≤ total l
+total-in h [] i = absurd i
+total-in h (x ∷ xs) (inl e) = let n : h .len ≡ x .len = ap (λ (q : Pair). q .len) e in omega arith
+total-in h (x ∷ xs) (inr i) = omega (arith, total-in h xs i)

@@ -19,7 +19,7 @@ use Rattle.model.specs.Pieces.{Piece, keep, isOf, piecesOf, objectPairs}
 use Rattle.edits.specs.Edits.{notOf, without, give, inZone, Edit, takes, gives}
 use Rattle.edits.specs.Holes.{gapFits, apart, allApart}
 use Rattle.model.specs.Answer.{Answer, refused, answered, unless}
-use Rattle.edits.specs.Judge.{Call, release, place, claim, isEmpty, pairsFrom, listFits, need, firstHole, holesNear, taken, lowestId, unused, idFor, chooseIn, chosen, claimFits, byChoice, judgeRest}
+use Rattle.edits.specs.Judge.{Call, release, place, claim, isEmpty, pairsFrom, listFits, need, takenFor, lowestId, unused, idFor, choiceOf, chooseIn, chosen, claimFits, byChoice, judgeRest}
 use Rattle.edits.proofs.Kept.{All, all-keep, keep-keep, keep-all, keep-no, length-parts, some-length}
 use Rattle.edits.proofs.Gaps.{gap-of-test, gap-le, isLong}
 use Rattle.edits.proofs.Invariant.{FitPieces}
@@ -129,10 +129,12 @@ never-fourteen g l (place id list) ok fit h =
     let h3 = passed (isEmpty (piecesOf id l)) 11 v3 (λ e. omega arith) h in
     let h4 = passed (listFits g id list) 12 v4 (λ e. omega arith) h3 in
     edit-not (gives id qs) (passed (allApart g 0 (g .zones) (give id qs l)) 13 (answered (gives id qs)) (λ e. omega arith) h4)
-never-fourteen g l (claim size parent) {z = z} ok fit h =
-    go (lowestId g (unused l)) refl (firstHole (need g size) (holesNear g l parent)) (passed (claimFits g size parent) 12 (byChoice (chosen g l size parent)) (λ e. omega arith) h)
+never-fourteen g l (claim size parent room) {z = z} ok fit h =
+    go (lowestId g (unused l)) refl (takenFor g l (need g size) parent) (passed (claimFits g size parent) 12 (byChoice room (chosen g l size parent)) (λ e. omega arith) h)
   where
-    go : (i : Option ℕ) → lowestId g (unused l) ≡ i → (o : Option Pair) → byChoice (chooseIn g l (need g size) i o) ≡ refused 14 z → ⊥
+    go : (i : Option ℕ) → lowestId g (unused l) ≡ i → (o : Option (List Pair)) → byChoice room (chooseIn g l i o) ≡ refused 14 z → ⊥
     go none e o h = no-fourteen g l ok fit e
     go (some i) e none h = omega (arith, same-number h)
-    go (some i) e (some q) h = edit-not (gives (idFor g l i q) (taken (g .shortest) (need g size) q ∷ [])) h
+    go (some i) e (some qs) h =
+        let c = choiceOf (idFor g l i qs) g qs in
+        edit-not (gives (c .id) (c .pairs)) (passed (leb (2 * length (c .pairs)) room) 17 (answered (gives (c .id) (c .pairs))) (λ e. omega arith) h)

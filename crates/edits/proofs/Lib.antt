@@ -10,7 +10,9 @@ pub mod HolesLeft
 pub mod Invariant
 pub mod Found
 pub mod ZonesNear
+pub mod HolesAscend
 pub mod ClaimFits
+pub mod ListInOrder
 pub mod Chosen
 pub mod RunsKept
 pub mod ReadsAfter

@@ -57,9 +57,9 @@ given-id h = cc
 given-pairs : {id jd : ℕ} {ps qs : List Pair} → gives id ps ≡ gives jd qs → ps ≡ qs
 given-pairs h = cc
 
-pub given-facts : (g : Geometry) (l : List Piece) (c : Call) (id : ℕ) (qs : List Pair) → judge g none l c ≡ answered (gives id qs) → GivenFacts g (gives id qs) id qs
-given-facts g l (release jd room) id qs h = absurd (taken-given (release-tests g l jd room (gives id qs) h .3))
-given-facts g l (place jd list) id qs h =
+pub given-facts : (g : Geometry) → AcceptedGeometry g → (l : List Piece) (c : Call) (id : ℕ) (qs : List Pair) → judge g none l c ≡ answered (gives id qs) → GivenFacts g (gives id qs) id qs
+given-facts g ok l (release jd room) id qs h = absurd (taken-given (release-tests g l jd room (gives id qs) h .3))
+given-facts g ok l (place jd list) id qs h =
     let t = place-tests g l jd list (gives id qs) h in
     let f = both (ltb 0 (length list) && eqb (length list % 2) 0) (pairsFit g jd 0 (pairsFrom list)) (t .2) in
     let k = both (ltb 0 (length list)) (eqb (length list % 2) 0) (f .0) in
@@ -67,9 +67,9 @@ given-facts g l (place jd list) id qs h =
       ordinary = subst (λ (x : ℕ). editable g x ≡ true) (given-id (t .4)) (t .0);
       some-pairs = λ n. pairs-some list (ltb-true 0 (length list) (k .0)) (eqb-true (length list % 2) 0 (k .1)) (given-pairs (t .4) ∙ n);
     }
-given-facts g l (claim size parent) id qs h =
-    let t = claim-tests g l size parent (gives id qs) h in
-    let c = chosen-id g l size parent (t .0) (t .1) (t .2) in
+given-facts g ok l (claim size parent room) id qs h =
+    let t = claim-tests g l size parent room (gives id qs) h in
+    let c = chosen-id g l size parent (t .0) (t .1) (t .2) ok in
     record {
       ordinary = subst (λ (x : ℕ). editable g x ≡ true) (given-id (t .3)) (c .ordinary);
       some-pairs = λ n. c .some-pairs (given-pairs (t .3) ∙ n);
@@ -81,7 +81,7 @@ pub given-placed : (g : Geometry) (ok : AcceptedGeometry g) (s : Disc) → Accep
 given-placed g ok s k c id qs h =
     let l = s .pieces in
     let a = allowed g l c (gives id qs) ok (k .fit) h in
-    let f = given-facts g l c id qs h in
+    let f = given-facts g ok l c id qs h in
     let fit = a .1 (s .cross) in
     let e : pairsFrom (numbersOf qs) ≡ qs = pairs-numbers qs in
     let p : pairsFit g id 0 qs ≡ true = subst (λ (x : List Pair). pairsFit g id 0 x ≡ true) (read-back g id qs l (a .0)) (listed-fits g ok id (give id qs l) fit (accepted-edit g ok s k c (gives id qs) h .clusters)) in

@@ -133,12 +133,12 @@ module _ (g : Geometry) (ok : AcceptedGeometry g) (s : Disc) (k : AcceptedPieces
       let fits : pairsFit g id 0 qs ≡ true = (both (ltb 0 (length list) && eqb (length list % 2) 0) (pairsFit g id 0 qs) (c .0)) .1 in
       by-edit {a = gives id qs} (d .1) (allowed g l (place id list) e ok (k .fit) h .1 (s .cross))
       (λ fit. accepted-give g id qs l ok (omega (arith, editable-from g id (a .0))) k fit (list-long g id 0 qs fits) (list-whole g id 0 qs fits))
-  accepted-edit (claim size parent) e h =
-      let t = claim-tests g l size parent e h in
-      let i = chosen-id g l size parent (t .0) (t .1) (t .2) in
+  accepted-edit (claim size parent room) e h =
+      let t = claim-tests g l size parent room e h in
+      let i = chosen-id g l size parent (t .0) (t .1) (t .2) ok in
       let c = chosen-pairs g l size parent (t .0) (t .1) (t .2) ok (k .fit) (t .4) in
       subst (λ (x : Edit). AcceptedPieces g ((edit g x s) .pieces)) (t .3)
-      (accepted-give g (t .0) (t .1) l ok (omega (arith, editable-from g (t .0) (i .ordinary))) k (c .fit) (c .long) (chosen-whole g l size parent (t .0) (t .1) ok (k .clusters) (t .2)))
+      (accepted-give g (t .0) (t .1) l ok (omega (arith, editable-from g (t .0) (i .ordinary))) k (c .fit) (c .long) (chosen-whole g l size parent (t .0) (t .1) ok (k .fit) (k .clusters) (t .4) (t .2)))
 
   pub accepted-after : (c : Call) → AcceptedPieces g ((after g s c) .pieces)
   accepted-after c = go (judge g none (s .pieces) c) refl

@@ -51,17 +51,19 @@ place-tests g l id list e h =
     let d = unless-inv (allApart g 0 (g .zones) (give id (pairsFrom list) l)) _ _ e (c .1) in
     (a .0, empty (piecesOf id l) (b .0), c .0, d .0, same-edit (d .1))
 
-pub claim-tests : (g : Geometry) (l : List Piece) (size parent : ℕ) (e : Edit) → judge g none l (claim size parent) ≡ answered e
+pub claim-tests : (g : Geometry) (l : List Piece) (size parent room : ℕ) (e : Edit) → judge g none l (claim size parent room) ≡ answered e
     → (id : ℕ) × (qs : List Pair) × (chosen g l size parent ≡ answered (choice id qs)) × (gives id qs ≡ e) × (parent < g .zones)
-claim-tests g l size parent e h = go (chosen g l size parent) refl (u .1)
+claim-tests g l size parent room e h = go (chosen g l size parent) refl (u .1)
   where
-    u : (claimFits g size parent ≡ true) × (byChoice (chosen g l size parent) ≡ answered e)
-    u = unless-inv (claimFits g size parent) 12 (byChoice (chosen g l size parent)) e h
+    u : (claimFits g size parent ≡ true) × (byChoice room (chosen g l size parent) ≡ answered e)
+    u = unless-inv (claimFits g size parent) 12 (byChoice room (chosen g l size parent)) e h
 
-    go : (o : Answer Choice) → chosen g l size parent ≡ o → byChoice o ≡ answered e
+    go : (o : Answer Choice) → chosen g l size parent ≡ o → byChoice room o ≡ answered e
         → (id : ℕ) × (qs : List Pair) × (chosen g l size parent ≡ answered (choice id qs)) × (gives id qs ≡ e) × (parent < g .zones)
     go (refused n i) c h = let z : _≡_ {A = ℕ} 0 1 = cc in absurd (omega arith)
-    go (answered o) c h = (o .id, o .pairs, c, same-edit h, ltb-true parent (g .zones) (both (ltb 0 size) (ltb parent (g .zones)) (u .0) .1))
+    go (answered o) c h =
+        let r = unless-inv (leb (2 * length (o .pairs)) room) 17 (answered (gives (o .id) (o .pairs))) e h in
+        (o .id, o .pairs, c, same-edit (r .1), ltb-true parent (g .zones) (both (ltb 0 size) (ltb parent (g .zones)) (u .0) .1))
 
 -- an edit that may be undone and keeps the invariant
 abbrev pub EditFits : Geometry → List Piece → Edit → Type 0
@@ -77,11 +79,11 @@ allowed g l (place id list) e f k h =
     let fits = fit-give g id (pairsFrom list) l f k ((both (leb 3 id) (ltb id (g .ids * g .zones)) (t .0)) .1) ok (t .3) in
     subst (EditFits g l) (t .4)
     ((t .1, list-order g id 0 (pairsFrom list) f ok, fit-asc g (give id (pairsFrom list) l) f fits), λ x. fits)
-allowed g l (claim size parent) e f k h =
-    let t = claim-tests g l size parent e h in
+allowed g l (claim size parent room) e f k h =
+    let t = claim-tests g l size parent room e h in
     let c = chosen-pairs g l size parent (t .0) (t .1) (t .2) f k (t .4) in
     subst (EditFits g l) (t .3)
-    ((chosen-id g l size parent (t .0) (t .1) (t .2) .absent, c .in-order, fit-asc g (give (t .0) (t .1) l) f (c .fit)), λ x. c .fit)
+    ((chosen-id g l size parent (t .0) (t .1) (t .2) f .absent, c .in-order, fit-asc g (give (t .0) (t .1) l) f (c .fit)), λ x. c .fit)
 
 -- a run is a trace of its edits
 pub traced : (g : Geometry) (s : Disc) (cs : List Call) → AcceptedGeometry g → FitPieces g (s .pieces) → Trace g s (edits g s cs) (run g s cs)

@@ -1,5 +1,5 @@
 -- The calls that edit, judged on the pieces of an accepted map (document 01, "The calls", "Numbered refusals"; a claim by document 02,
--- R-6): refused with a number in the table's order, or an edit. Assumes nothing.
+-- R-6 and R-8): refused with a number in the table's order, or an edit. Assumes nothing.
 use mathlib.Core.Bool.{Bool, true, false, cond, not, _&&_}
 use mathlib.Core.List.{List, [], _∷_}
 use mathlib.Core.Option.{Option, none, some}
@@ -10,17 +10,19 @@ use Rattle.geometry.specs.declared.Geometry.{Geometry}
 use Rattle.geometry.specs.Places.{zoneOf, zoneEnd, discBits, startZone, idFrom}
 use Rattle.model.specs.Answer.{Answer, refused, answered, unless, andThen}
 use Rattle.model.specs.Chain.{Pair}
-use Rattle.model.specs.Pieces.{Piece, piecesOf, late, objectPairs}
+use Rattle.model.specs.Pieces.{Piece, piecesOf, late, rotate, objectPairs}
+use Rattle.split.specs.Taken.{bySize, takeFrom, byStart}
 use Rattle.edits.specs.Order.{rank}
 use Rattle.edits.specs.Edits.{own, give, Edit, takes, gives}
 use Rattle.edits.specs.Near.{zonesNear}
-use Rattle.edits.specs.Holes.{holesOf, allApart}
+use Rattle.edits.specs.Holes.{holesOf, holesFrom, allApart}
 
--- a release of an id with room for so many entries; a place of a list under an id; a claim of so many bytes near a parent zone
+-- a release of an id with room for so many entries; a place of a list under an id; a claim of so many bytes near a parent zone, with room
+-- for so many entries
 pub data Call : Type 0 where
   release : ℕ → ℕ → Call
   place : ℕ → List ℕ → Call
-  claim : ℕ → ℕ → Call
+  claim : ℕ → ℕ → ℕ → Call
 
 abbrev pub isEmpty {ℓ} : {A : Type ℓ} → List A → Bool
 isEmpty [] = true
@@ -33,7 +35,7 @@ editable g id = idFrom 3 g id
 abbrev pub callFits : Geometry → Call → Bool
 callFits g (release id room) = editable g id
 callFits g (place id list) = editable g id
-callFits g (claim size parent) = true
+callFits g (claim size parent room) = true
 
 -- the pairs of a list that is handed in
 abbrev pub pairsFrom : List ℕ → List Pair
@@ -74,9 +76,14 @@ firstHole n (h ∷ hs) = cond (leb n (h .len)) (some h) (firstHole n hs)
 abbrev pub holesNear : Geometry → List Piece → ℕ → List Pair
 holesNear g l parent = holesOf g l (zonesNear (g .zones) parent)
 
--- "Take need bits from its start, or the whole hole if 1 to m-1 bits would remain."
-abbrev pub taken : ℕ → ℕ → Pair → Pair
-taken m n h = record { start = h .start; len = cond (ltb (h .len) (n + m)) (h .len) n }
+-- R-8: "When no hole is long enough, take holes largest first": the holes that a claim takes, in their order. One that is long enough is taken alone.
+abbrev pub inTurn : Geometry → List Piece → Option Pair → List Pair
+inTurn g l (some h) = h ∷ []
+inTurn g l none = bySize (holesFrom g 0 (g .zones) l)
+
+-- The pairs that are taken, in that order. Of one hole: "Take need bits from its start, or the whole hole if 1 to m-1 bits would remain."
+abbrev pub takenFor : Geometry → List Piece → ℕ → ℕ → Option (List Pair)
+takenFor g l n parent = takeFrom (g .shortest) n (inTurn g l (firstHole n (holesNear g l parent)))
 
 -- the lowest number that passes a test, of n from `id` on; and so of the ids "from 3"
 abbrev pub lowest : (ℕ → Bool) → ℕ → ℕ → Option ℕ
@@ -93,14 +100,18 @@ unused l id = isEmpty (piecesOf id l)
 abbrev pub unusedOf : Geometry → List Piece → ℕ → ℕ → Bool
 unusedOf g l z id = eqb (startZone g id) z && unused l id
 
--- "The id is the lowest unused one from 3 whose start zone is the chosen zone, and only if none is left the lowest unused from 3": the chosen
--- zone is that of the hole, and `any` the lowest of all
+-- "The id is the lowest unused one from 3 whose start zone is the chosen zone, and only if none is left the lowest unused from 3": `any` is the
+-- lowest of all, and R-8 says which zone is chosen: "that of the first hole taken"
 abbrev pub orAny : ℕ → Option ℕ → ℕ
 orAny any none = any
 orAny any (some id) = id
 
-abbrev pub idFor : Geometry → List Piece → ℕ → Pair → ℕ
-idFor g l any h = orAny any (lowestId g (unusedOf g l (zoneOf g (h .start))))
+abbrev pub firstZone : Geometry → List Pair → ℕ
+firstZone g [] = 0
+firstZone g (q ∷ qs) = zoneOf g (q .start)
+
+abbrev pub idFor : Geometry → List Piece → ℕ → List Pair → ℕ
+idFor g l any qs = orAny any (lowestId g (unusedOf g l (firstZone g qs)))
 
 -- what a claim chooses: an id, and the pairs that it is to be given
 pub record Choice : Type 0 where
@@ -110,23 +121,34 @@ pub record Choice : Type 0 where
 abbrev pub choice : ℕ → List Pair → Choice
 choice id qs = record { id = id; pairs = qs }
 
--- 14: "no unused id"; 15: "no hole of length need"
-abbrev pub chooseIn : Geometry → List Piece → ℕ → Option ℕ → Option Pair → Answer Choice
-chooseIn g l n none h = refused 14 0
-chooseIn g l n (some any) none = refused 15 0
-chooseIn g l n (some any) (some h) = answered (choice (idFor g l any h) (taken (g .shortest) n h ∷ []))
+-- "The answer becomes a list in object order for the chosen id": the pairs ascending, those from the id's start zone on first
+abbrev pub inObjectOrder : Geometry → ℕ → List Pair → List Pair
+inObjectOrder g id qs = rotate (λ q. late g id (own id q)) (byStart qs)
+
+abbrev pub choiceOf : ℕ → Geometry → List Pair → Choice
+choiceOf id g qs = choice id (inObjectOrder g id qs)
+
+-- 14: "no unused id"; 15: nothing can be taken, which the contract of `runs::edit_table` shows to be "exactly if all free bits together are fewer than
+-- need"
+abbrev pub chooseIn : Geometry → List Piece → Option ℕ → Option (List Pair) → Answer Choice
+chooseIn g l none o = refused 14 0
+chooseIn g l (some any) none = refused 15 0
+chooseIn g l (some any) (some qs) = answered (choiceOf (idFor g l any qs) g qs)
 
 -- what a claim of so many bytes near a parent zone chooses: the one definition that another way of choosing replaces
 abbrev pub chosen : Geometry → List Piece → ℕ → ℕ → Answer Choice
-chosen g l size parent = chooseIn g l (need g size) (lowestId g (unused l)) (firstHole (need g size) (holesNear g l parent))
+chosen g l size parent = chooseIn g l (lowestId g (unused l)) (takenFor g l (need g size) parent)
 
 -- 12: "claim of 0 bytes"; "a parent zone (refusal 12 if not below nzones)"
 abbrev pub claimFits : Geometry → ℕ → ℕ → Bool
 claimFits g size parent = ltb 0 size && ltb parent (g .zones)
 
--- "Then as place": the chosen pairs are given to the chosen id
-abbrev pub byChoice : Answer Choice → Answer Edit
-byChoice r = andThen r (λ (c : Choice). answered (gives (c .id) (c .pairs)))
+-- 17: "too few entries for the pairs"; "Then as place": the chosen pairs are given to the chosen id
+abbrev pub byRoom : ℕ → Choice → Answer Edit
+byRoom room c = unless (leb (2 * length (c .pairs)) room) 17 (answered (gives (c .id) (c .pairs)))
+
+abbrev pub byChoice : ℕ → Answer Choice → Answer Edit
+byChoice room r = andThen r (byRoom room)
 
 -- 9: "edits: two free fragments of a zone touch", where such a zone is found, or what comes after it
 abbrev pub byTouching : Option ℕ → Answer Edit → Answer Edit
@@ -144,7 +166,7 @@ judgeRest g l (place id list) =
     (unless (listFits g id list) 12
     (unless (allApart g 0 (g .zones) (give id (pairsFrom list) l)) 13
     (answered (gives id (pairsFrom list)))))
-judgeRest g l (claim size parent) = unless (claimFits g size parent) 12 (byChoice (chosen g l size parent))
+judgeRest g l (claim size parent room) = unless (claimFits g size parent) 12 (byChoice room (chosen g l size parent))
 
 -- the verdict on a disc's pieces, where free fragments touch in this zone or in none: 8, 9, then that
 abbrev pub judge : Geometry → Option ℕ → List Piece → Call → Answer Edit

@@ -5,13 +5,13 @@ use Prim.Native.Nat.{ℕ}
 use Rattle.checks.specs.Cross.{crossOf}
 use Rattle.geometry.specs.declared.Geometry.{Geometry}
 use Rattle.geometry.specs.Record.{geometryOf}
-use Rattle.model.specs.Chain.{Entry, touching}
+use Rattle.model.specs.Chain.{Pair, Entry, touching}
 use Rattle.model.specs.Blocks.{flat}
 use Rattle.model.specs.Answer.{Answer, refused, answered, andThen}
 use Rattle.model.specs.Check.{mapRead, blocksOf}
 use Rattle.model.specs.Shown.{zonesOf}
 use Rattle.model.specs.Pieces.{piecesOfZones}
-use Rattle.edits.specs.Edits.{Disc, Edit, edit}
+use Rattle.edits.specs.Edits.{Disc, Edit, pairsIn, edit}
 use Rattle.edits.specs.Judge.{Call, judge}
 use Rattle.edits.specs.Written.{rewritten}
 
@@ -25,6 +25,10 @@ byRead g c ess = judge g (touching 0 ess) (piecesOfZones g 0 ess) c
 
 abbrev pub outcome : List ℕ → Call → Answer Edit
 outcome m c = andThen (mapRead m) (byRead (geometryOf m) c)
+
+-- the pairs that an accepted call answers
+abbrev pub pairsTold : Answer Edit → Answer (List Pair)
+pairsTold r = andThen r (λ (e : Edit). answered (pairsIn e))
 
 -- the bytes after it
 abbrev pub bytesAfter : List ℕ → Answer Edit → List ℕ

@@ -37,18 +37,18 @@ use Rattle.listing.proofs.FreeHeld.{free-spans}
 use Rattle.listing.proofs.ObjectOrder.{in-object-order}
 
 -- what is found, and the answer
-refusal-lists : {f : Answer (List Pair)} (old : List ℕ) {n z : ℕ} {r : Refusal} → f ≡ refused n z → r ≡ refusal n z → Lists f old (listed.Refused r) old
+pub refusal-lists : {f : Answer (List Pair)} (old : List ℕ) {n z : ℕ} {r : Refusal} → f ≡ refused n z → r ≡ refusal n z → Lists f old (listed.Refused r) old
 refusal-lists old e er = rw e (record { answer = ap listed.Refused er; numbers = ap (λ (r : Refusal). listNumbers (listed.Refused r)) er; list = refl })
 
-pairs-list : {f : Answer (List Pair)} (old : List ℕ) {new : List ℕ} {n : ℕ} (qs : List Pair) → f ≡ answered qs → n ≡ length qs → 2 * length qs ≤ length old → new ≡ sets old 0 (numbersOf qs)
+pub pairs-list : {f : Answer (List Pair)} (old : List ℕ) {new : List ℕ} {n : ℕ} (qs : List Pair) → f ≡ answered qs → n ≡ length qs → 2 * length qs ≤ length old → new ≡ sets old 0 (numbersOf qs)
     → Lists f old (listed.Pairs n) new
 pairs-list old qs e en h es = rw e (record { answer = ap listed.Pairs en; numbers = ap (λ (n : ℕ). listNumbers (listed.Pairs n)) en; list = es ∙ stored-first qs old h })
 
 -- 17 is told where the pairs do not fit
-too-few : (room n : ℕ) (qs : List Pair) → n ≡ length qs → room / 2 < n → withRoom room qs ≡ refused 17 0
+pub too-few : (room n : ℕ) (qs : List Pair) → n ≡ length qs → room / 2 < n → withRoom room qs ≡ refused 17 0
 too-few room n qs e h = rw (lt-leb (2 * length qs) room (omega arith))
 
-enough : (room n : ℕ) (qs : List Pair) → n ≡ length qs → n ≤ room / 2 → withRoom room qs ≡ answered qs
+pub enough : (room n : ℕ) (qs : List Pair) → n ≡ length qs → n ≤ room / 2 → withRoom room qs ≡ answered qs
 enough room n qs e h = rw (le-leb (2 * length qs) room (omega arith))
 
 -- how a call starts: the check's answer c accepts the map, or the call refuses as the check does

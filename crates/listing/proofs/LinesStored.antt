@@ -1,28 +1,19 @@
 -- One line more stored: its pair, if the line is the holder's.
-use mathlib.Core.Path.{_≡_, refl, sym, ap, _∙_}
-use mathlib.Core.Bool.{Bool, true, false, cond}
+use mathlib.Core.Path.{_≡_}
+use mathlib.Core.Bool.{Bool, cond}
 use mathlib.Core.List.{List, [], _∷_, _++_}
 use Prim.Native.Nat.{ℕ, _+_, _*_, _<_, _≤_}
-use native.Mathlib.Omega.{arith}
 use lib.Dec.{eqb}
 use lib.ListN.{length}
 use lib.Seq.{sets}
 use Rattle.geometry.specs.declared.Geometry.{Geometry}
-use Rattle.model.specs.Chain.{Pair, numbersOf}
+use Rattle.model.specs.Chain.{Pair}
 use Rattle.walk.specs.declared.Walk.{Walk}
 use Rattle.walk.specs.declared.Step.{Step}
 use Rattle.walk.specs.Remaining.{remaining, Advances}
-use Rattle.walk.specs.HeldBy.{pairIf, linePair, heldLines}
-use Rattle.walk.proofs.HeldLines.{pair-count, held-step}
-use Rattle.listing.proofs.Stored.{StoredSoFar, stored-room, stored-turn}
-
-pair-numbers : (b : Bool) (d n : ℕ) → numbersOf (pairIf b d n) ≡ cond b (d ∷ n ∷ []) []
-pair-numbers true d n = refl
-pair-numbers false d n = refl
-
-pair-room : (b : Bool) → cond b 2 0 ≡ 2 * cond b 1 0
-pair-room true = refl
-pair-room false = refl
+use Rattle.walk.specs.HeldBy.{linePair, heldLines}
+use Rattle.walk.proofs.HeldLines.{held-step}
+use Rattle.listing.proofs.Stored.{StoredSoFar, piece-room, piece-stored}
 
 module _ (h : ℕ) {m : List ℕ} {g : Geometry} {w : Walk} {r : Step} (a : Advances m g w r) (to : ℕ) (u : to ≤ g .zones) (k : w .zone < to) where
   abbrev wanted : Bool
@@ -38,15 +29,9 @@ module _ (h : ℕ) {m : List ℕ} {g : Geometry} {w : Walk} {r : Step} (a : Adva
   step = held-step h a to u k
 
   module _ {old new : List ℕ} {at j : ℕ} {whole : List Pair} (s : StoredSoFar old new at j whole (heldLines h (remaining m g to w))) where
-    room-is : cond wanted 2 0 ≡ 2 * length this
-    room-is = pair-room wanted ∙ ap (λ (x : ℕ). 2 * x) (sym (pair-count wanted (r .line .start .0) (r .line .len)))
-
     pub line-room : at + 2 * length whole ≤ length old → j + cond wanted 2 0 ≤ length new
-    line-room f = omega (arith, room-is, stored-room s this others step f)
+    line-room f = piece-room s wanted (r .line .start .0) (r .line .len) others step f
 
     pub line-stored : {next : List ℕ} {i : ℕ} → next ≡ sets new j (cond wanted (r .line .start .0 ∷ r .line .len ∷ []) []) → i ≡ j + cond wanted 2 0
         → StoredSoFar old next at i whole others
-    line-stored en ei =
-        stored-turn s this others step
-        (en ∙ ap (sets new j) (sym (pair-numbers wanted (r .line .start .0) (r .line .len))))
-        (ei ∙ ap (λ (x : ℕ). j + x) room-is)
+    line-stored en ei = piece-stored s wanted (r .line .start .0) (r .line .len) others step en ei

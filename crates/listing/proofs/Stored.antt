@@ -9,8 +9,9 @@ use native.Mathlib.Numerals.{add-one}
 use native.Mathlib.Omega.{arith}
 use lib.ListN.{length, drop, set, length-append}
 use lib.Seq.{sets, length-sets, sets-eq}
-use Rattle.model.specs.Chain.{Pair, numbersOf}
+use Rattle.model.specs.Chain.{Pair, pair, numbersOf}
 use Rattle.model.proofs.Lists.{length-numbers, numbers-append}
+use Rattle.walk.specs.HeldBy.{pairIf}
 
 -- stored in one run, or in two
 sets-append : (xs ys l : List ℕ) (i : ℕ) → sets l i (xs ++ ys) ≡ sets (sets l i xs) (i + length xs) ys
@@ -72,3 +73,16 @@ module _ {old new : List ℕ} {at j : ℕ} {whole rest : List Pair} (s : StoredS
           (λ i. sets (en i) (ek i) (numbersOf others)) ∙ sym (stored-append some others new j)
           ∙ sym (ap (λ (r : List Pair). sets new j (numbersOf r)) e) ∙ s .same;
     }
+
+-- one pair more, if it is wanted: the first of the rest, or none of it
+module _ {old new : List ℕ} {at j : ℕ} {whole rest : List Pair} (s : StoredSoFar old new at j whole rest) where
+  pub piece-room : (b : Bool) (d n : ℕ) (others : List Pair)
+      → rest ≡ pairIf b d n ++ others → at + 2 * length whole ≤ length old → j + cond b 2 0 ≤ length new
+  piece-room true d n others e h = stored-room s (pair d n ∷ []) others e h
+  piece-room false d n others e h = stored-room s [] others e h
+
+  pub piece-stored : (b : Bool) (d n : ℕ) (others : List Pair)
+      → rest ≡ pairIf b d n ++ others → {next : List ℕ} {k : ℕ}
+      → next ≡ sets new j (cond b (d ∷ n ∷ []) []) → k ≡ j + cond b 2 0 → StoredSoFar old next at k whole others
+  piece-stored true d n others e en ek = stored-turn s (pair d n ∷ []) others e en ek
+  piece-stored false d n others e en ek = stored-turn s [] others e en ek

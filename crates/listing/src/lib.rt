@@ -126,7 +126,7 @@ fn same(a: u32, b: u32) -> usize
 }
 
 // Stores a pair at entry `at` if it is wanted; answers the entry after it.
-fn put_if(wanted: bool, start: DiscBit, len: u32, pairs: &mut [u32], at: usize) -> usize
+pub fn put_if(wanted: bool, start: DiscBit, len: u32, pairs: &mut [u32], at: usize) -> usize
     requires { ⌜ at + cond wanted 2 0 ≤ length (now pairs) ⌝ }
     ensures list { λ r. ⌜ now (pairs .exit) ≡ sets (now (pairs .entry)) at (cond wanted (start .0 ∷ len ∷ []) []) ⌝ }
     ensures next { λ r. ⌜ r ≡ at + cond wanted 2 0 ⌝ }

@@ -20,7 +20,7 @@ use Rattle.edits.specs.Edits.{takes, Edit}
 use Rattle.edits.specs.Judge.{editable, judge, pairsFrom}
 use Rattle.edits.specs.Judge as call
 use Rattle.model.specs.Answer.{Answer, refused, answered}
-use Rattle.edits.specs.Steps.{outcome, bytesAfter, step}
+use Rattle.edits.specs.Steps.{outcome, pairsTold, bytesAfter, step}
 use Rattle.model.specs.Shown.{zonesOf, piecesOn, objectOn}
 use Rattle.listing.specs.Listed.{objectFound, Lists}
 use Rattle.listing.specs.Listed as list
@@ -30,7 +30,7 @@ use Rattle.walk.specs.Touching.{touchingOf}
 use Rattle.edits.specs.EditableMap.{EditableMap}
 use Rattle.walk.specs.declared.Touching.the-variants as told
 use Rattle.edits.proofs.Outcomes.{check-refused, id-refused, touching-refused, judged-told}
-use Rattle.release.specs.Released.{pairsTaken, Releases}
+use Rattle.release.specs.Released.{Releases}
 use Rattle.release.proofs.ListedVerdict.{listing, verdictOf, judged-as-listed, refused-told, found-told, some-told, found-is, object-fits}
 use Rattle.edits.proofs.EditableMap.{map-pieces}
 use Rattle.edits.proofs.Returned.{pairs-numbers}
@@ -38,7 +38,7 @@ use Rattle.writer.specs.Edited.{editOf, EditAsks, editedMap}
 
 refusal-releases : (m : List ℕ) (id : ℕ) (old : List ℕ) (n z : ℕ) → outcome m (call.release id (length old)) ≡ refused n z → Releases m id old (listed.Refused (refusal n z)) m old
 refusal-releases m id old n z e =
-    record { lists = subst⁻¹ (λ (x : Answer Edit). Lists (pairsTaken x) old (listed.Refused (refusal n z)) old) e (record { answer = refl; numbers = refl; list = refl }); bytes = sym (ap (bytesAfter m) e) }
+    record { lists = subst⁻¹ (λ (x : Answer Edit). Lists (pairsTold x) old (listed.Refused (refusal n z)) old) e (record { answer = refl; numbers = refl; list = refl }); bytes = sym (ap (bytesAfter m) e) }
 
 pub check-refuses : (m : List ℕ) (id : ℕ) (old : List ℕ) (r : Refusal) → checked m ≡ check.Refused r → Releases m id old (listed.Refused r) m old
 check-refuses m id old r e = refusal-releases m id old (r .number) (r .zone) (check-refused m (call.release id (length old)) r e)
@@ -70,7 +70,7 @@ module _ {m : List ℕ} {g : Geometry} (e : EditableMap m g) (id : ℕ) (named :
   verdict : judge g none (piecesOn g m) (call.release id (length old)) ≡ verdictOf id (listing (length old) (objectOn g m id))
   verdict = judged-as-listed g (piecesOn g m) id room named
 
-  as-listed : (x : Listed) → r ≡ x → pairsTaken (outcome m (call.release id (length old))) ≡ listing (length old) (objectOn g m id)
+  as-listed : (x : Listed) → r ≡ x → pairsTold (outcome m (call.release id (length old))) ≡ listing (length old) (objectOn g m id)
       → (after : List ℕ) → after ≡ step m (call.release id (length old)) → Releases m id old x after new
   as-listed x t p after b =
       subst (λ (y : Listed). Releases m id old y after new) t (record { lists = subst⁻¹ (λ (f : Answer (List Pair)). Lists f old r new) (p ∙ sym found) l; bytes = b })
@@ -79,7 +79,7 @@ module _ {m : List ℕ} {g : Geometry} (e : EditableMap m g) (id : ℕ) (named :
   listing-refuses {q} t =
       let k = refused-told room qs q (told-is (listed.Refused q) t) in
       let o = judged-told e (call.release id room) (refused (k .0) 0) (verdict ∙ ap (verdictOf id) (k .1)) in
-      as-listed (listed.Refused q) t (ap pairsTaken o ∙ sym (k .1)) m (sym (ap (bytesAfter m) o))
+      as-listed (listed.Refused q) t (ap pairsTold o ∙ sym (k .1)) m (sym (ap (bytesAfter m) o))
 
   module _ {n : ℕ} (t : r ≡ listed.Pairs n) where
     -- the pairs told are the object's
@@ -120,5 +120,5 @@ module _ {m : List ℕ} {g : Geometry} (e : EditableMap m g) (id : ℕ) (named :
     listing-releases after w =
         let o = judged-told e (call.release id room) (answered (takes id qs)) edit-judged in
         let p : pairsFrom (take (2 * n - 0) (drop 0 new)) ≡ qs = ap pairsFrom first-told ∙ pairs-numbers qs in
-        as-listed (listed.Pairs n) t (ap pairsTaken o ∙ sym pairs-are) after
+        as-listed (listed.Pairs n) t (ap pairsTold o ∙ sym pairs-are) after
         (w ∙ ap (λ (ps : List Pair). editedMap m (takes id ps)) p ∙ sym (ap (bytesAfter m) o))

@@ -4,19 +4,12 @@ use mathlib.Core.Path.{_≡_}
 use mathlib.Core.List.{List}
 use Prim.Native.Nat.{ℕ}
 use lib.ListN.{length}
-use Rattle.edits.specs.Edits.{pairsIn, Edit}
 use Rattle.edits.specs.Judge as call
-use Rattle.model.specs.Answer.{Answer, answered, andThen}
-use Rattle.model.specs.Chain.{Pair}
-use Rattle.edits.specs.Steps.{outcome, step}
+use Rattle.edits.specs.Steps.{outcome, pairsTold, step}
 use Rattle.listing.specs.declared.Listed.{Listed}
 use Rattle.listing.specs.Listed.{Lists}
 
--- "returns its pairs in object order": what a listing would find
-abbrev pub pairsTaken : Answer Edit → Answer (List Pair)
-pairsTaken r = andThen r (λ (e : Edit). answered (pairsIn e))
-
--- the answer and every entry of the list, as of a listing, and every byte of the map
+-- "returns its pairs in object order": what a listing would find. The answer and every entry of the list, as of a listing, and every byte of the map
 pub record Releases (m : List ℕ) (id : ℕ) (old : List ℕ) (r : Listed) (after : List ℕ) (new : List ℕ) : Type 0 where
-  pub lists : Lists (pairsTaken (outcome m (call.release id (length old)))) old r new
+  pub lists : Lists (pairsTold (outcome m (call.release id (length old)))) old r new
   pub bytes : after ≡ step m (call.release id (length old))

@@ -1,87 +1,56 @@
--- What a claim's verdict says of its id and its hole. The zones tried are ranked, so those before the hole's have none; holes ascend, so in its zone
--- those before it are too short. The id found is the lowest unused one of the zone, or of all.
-use mathlib.Core.Path.{_≡_, refl, sym, ap, _∙_, subst, subst⁻¹}
+-- What a claim's verdict says of its id and its pairs. The zones tried are ranked, so those before the nearest hole's have none that is long enough;
+-- holes ascend, so in its zone those before it are too short. Where there is none, the holes are in the order of their size. The id found is the lowest
+-- unused one of the zone, or of all; and the list is one that a place takes.
+use mathlib.Core.Path.{_≡_, refl, sym, ap, ap₂, _∙_, subst, subst⁻¹}
 use mathlib.Core.Bool.{true, false≢true}
-use mathlib.Core.List.{List, [], _∷_, _++_, append-nil}
+use mathlib.Core.List.{List, [], _∷_}
 use mathlib.Core.Option.{Option, none, some}
 use mathlib.Core.Logic.{_⊎_, inl, inr}
-use Prim.Native.Nat.{ℕ, zero, suc, _+_, _*_, _<_, _≤_}
+use Prim.Native.Nat.{ℕ, suc, _+_, _*_, _<_, _≤_, max}
 use native.Mathlib.Omega.{arith}
-use lib.Dec.{eqb, ltb, leb}
-use borrow.Author.Tests.{eqb-true, eq-eqb, lt-ltb, le-ltb, ltb-true, leb-false}
+use lib.Dec.{eqb, leb}
+use lib.ListN.{length}
+use borrow.Author.Tests.{eqb-true, eq-eqb, lt-ltb, le-ltb, le-leb, leb-false}
 use Rattle.bits.proofs.Tests.{by-test, both, and-true}
 use Rattle.geometry.specs.declared.Geometry.{Geometry}
 use Rattle.geometry.specs.Record.{geometryOf}
 use Rattle.geometry.specs.Accepted.{AcceptedGeometry}
-use Rattle.geometry.specs.Places.{zoneOf, zoneFrom, zoneEnd, startZone}
-use Rattle.model.specs.Chain.{Pair}
-use Rattle.model.specs.Pieces.{Piece, piecesOf}
+use Rattle.geometry.specs.Places.{zoneOf, zoneFrom, startZone}
+use Rattle.model.specs.Answer.{answered}
+use Rattle.model.specs.Chain.{Pair, numbersOf}
+use Rattle.model.specs.Pieces.{Piece, piecesOf, InObjectOrder}
 use Rattle.model.specs.Shown.{zonesOf, piecesOn, listedOn, spansOn}
 use Rattle.model.proofs.Options.{none-some, some-some}
-use Rattle.model.proofs.ChainDrawn.{Lies}
-use Rattle.edits.specs.Edits.{inZone}
+use Rattle.split.specs.Taken.{total, leads, bySize, cutBits}
+use Rattle.split.specs.Laws.{Ascends, FrontTaken}
+use Rattle.split.proofs.Sorted.{total-append, total-sorted}
+use Rattle.split.proofs.Front.{refused-too-few, front-taken}
+use Rattle.edits.specs.Edits.{gives}
 use Rattle.edits.specs.Near.{zonesNear}
-use Rattle.edits.specs.Holes.{hole, holes, holesIn, holesFrom, holesOf}
-use Rattle.edits.specs.Judge.{isEmpty, need, firstHole, holesNear, taken, lowestId, unused, unusedOf, idFor}
+use Rattle.edits.specs.Holes.{holesIn, holesFrom, holesOf}
+use Rattle.edits.specs.Judge.{claim, isEmpty, need, firstHole, holesNear, inTurn, takenFor, lowestId, unused, unusedOf, idFor, inObjectOrder, chooseIn, byChoice, judge}
 use Rattle.edits.specs.Room.{In, Earlier}
 use Rattle.edits.specs.Editable.{Editable}
-use Rattle.edits.proofs.Kept.{all-keep}
-use Rattle.edits.proofs.Entries.{earlier-in}
-use Rattle.edits.proofs.HolesLeft.{apart-lies}
+use Rattle.edits.proofs.Entries.{earlier-in, total-in}
 use Rattle.edits.proofs.Found.{orElse, first-append}
 use Rattle.edits.proofs.ZonesNear.{near-exists}
+use Rattle.edits.proofs.HolesAscend.{ascends-in, earlier-below, all-holes-ascend, zone-ascends, ascends-apart}
 use Rattle.edits.proofs.ClaimFits.{first-in, holes-of-in, in-holes, holes-in, hole-zone}
 use Rattle.edits.proofs.Invariant.{FitPieces, some-bits}
-use Rattle.edits.proofs.Chosen.{empty, IdFor, there, elsewhere, id-found, id-ordinary}
+use Rattle.edits.proofs.ListInOrder.{in-order-in, in-in-order}
+use Rattle.edits.proofs.Chosen.{empty, IdFor, there, elsewhere, id-found, id-ordinary, first-taken, need-long}
+use Rattle.edits.proofs.RunsKept.{place-tests}
 use Rattle.edits.proofs.MapAccepted.{map-geometry, map-disc}
 use Rattle.edits.proofs.HolesSpans.{holes-are-spans}
-use Rattle.edits.proofs.PairsGiven.{none-listed}
+use Rattle.edits.proofs.Returned.{pairs-numbers}
+use Rattle.edits.proofs.PairsGiven.{none-listed, given-placed}
 use Rattle.edits.proofs.ReadsAfter.{same-pieces}
 use Rattle.runs.specs.ZonesTried.{Nearer}
-use Rattle.runs.specs.Claims.{ClaimRules}
+use Rattle.runs.specs.ListRules.{ListRules}
+use Rattle.runs.specs.Claims.{NearestHole, LargestFirst, InTurn, one, several, FromFront, ClaimRules}
 use Rattle.runs.proofs.ZonesTried.{nearer-asym, Ranked, ranked-near, near-named}
-
--- pairs whose starts ascend, each from `from` on
-abbrev Ascends : ℕ → List Pair → Type 0
-Ascends from [] = Unit {0}
-Ascends from (h ∷ hs) = (from ≤ h .start) × Ascends (suc (h .start)) hs
-
-ascends-weaken : (a b : ℕ) (hs : List Pair) → b ≤ a → Ascends a hs → Ascends b hs
-ascends-weaken a b [] k s = tt
-ascends-weaken a b (h ∷ hs) k s = (omega arith, s .1)
-
-ascends-in : (a : ℕ) (hs : List Pair) (h : Pair) → Ascends a hs → In h hs → a ≤ h .start
-ascends-in a [] h s i = absurd i
-ascends-in a (x ∷ xs) h s (inl e) = let k : h .start ≡ x .start = ap (λ (q : Pair). q .start) e in omega arith
-ascends-in a (x ∷ xs) h s (inr i) = omega (arith, ascends-in (suc (x .start)) xs h (s .1) i)
-
--- holes ascend
-hole-ascends : (at end : ℕ) (qs rest : List Pair) → at ≤ end → Ascends end (qs ++ rest) → Ascends at (hole at end qs ++ rest)
-hole-ascends at end qs rest k s =
-    by-test (ltb at end)
-    (λ t. simp t (omega arith, ascends-weaken end (suc at) (qs ++ rest) (ltb-true at end t) s))
-    (λ t. simp t (ascends-weaken end at (qs ++ rest) k s))
-
-holes-ascend : (at end : ℕ) (ps : List Piece) (rest : List Pair) → Lies at end ps → Ascends end rest → Ascends at (holes at end ps ++ rest)
-holes-ascend at end [] rest y s = hole-ascends at end [] rest y s
-holes-ascend at end (p ∷ ps) rest y s =
-    let e = p .at .start + p .at .len in
-    hole-ascends at (p .at .start) (holes e end ps) rest (y .0) (ascends-weaken e (p .at .start) (holes e end ps ++ rest) (omega arith) (holes-ascend e end ps rest (y .2) s))
-
-all-holes-ascend : (g : Geometry) (l : List Piece) → AcceptedGeometry g → FitPieces g l → (z n : ℕ) → z + n ≤ g .zones → Ascends (zoneFrom g z) (holesFrom g z n l)
-all-holes-ascend g l ok fit z zero h = tt
-all-holes-ascend g l ok fit z (suc n) h =
-    holes-ascend (zoneFrom g z) (zoneEnd g z) (inZone g z l) (holesFrom g (suc z) n l)
-    (apart-lies (g .shortest) (zoneFrom g z) (zoneEnd g z) (inZone g z l) (some-bits g ok) (all-keep _ _ l (fit .long)) (fit .parts z (omega arith)))
-    (all-holes-ascend g l ok fit (suc z) n (omega arith))
-
-zone-ascends : (g : Geometry) (l : List Piece) → AcceptedGeometry g → FitPieces g l → (z : ℕ) → z < g .zones → Ascends (zoneFrom g z) (holesIn g l z)
-zone-ascends g l ok fit z h = subst (Ascends (zoneFrom g z)) (append-nil (holesIn g l z)) (all-holes-ascend g l ok fit z 1 (omega arith))
-
-earlier-below : (a : ℕ) (hs : List Pair) → Ascends a hs → (q h : Pair) → Earlier q h hs → q .start < h .start
-earlier-below a [] s q h k = absurd k
-earlier-below a (x ∷ xs) s q h (inl k) = let e : q .start ≡ x .start = ap (λ (r : Pair). r .start) (k .0) in omega (arith, ascends-in (suc (x .start)) xs h (s .1) (k .1))
-earlier-below a (x ∷ xs) s q h (inr k) = earlier-below (suc (x .start)) xs (s .1) q h k
+use Rattle.runs.proofs.Twelve.{fits-gives-rules}
+use Rattle.runs.proofs.SortedOnce.{largest-first}
 
 -- the first hole that is long enough: those before it are too short, and where there is none all are
 first-short : (n a : ℕ) (hs : List Pair) (h : Pair) → Ascends a hs → firstHole n hs ≡ some h → (q : Pair) → In q hs → q .start < h .start → q .len < n
@@ -143,11 +112,6 @@ module _ (g : Geometry) (l : List Piece) (n p : ℕ) where
   none-found : (zs : List ℕ) → firstHole n (holesOf g l zs) ≡ none → (z : ℕ) → In z zs → (h : Pair) → In h (holesIn g l z) → h .len < n
   none-found zs e z i h j = none-long n (holesOf g l zs) e h (holes-of-in g l zs z i h j)
 
--- what is taken, where nothing or at least m bits would remain
-part-taken : (m n : ℕ) (h : Pair) → (h .len ≡ n) ⊎ (n + m ≤ h .len) → (taken m n h) .len ≡ n
-part-taken m n h (inl e) = by-test (ltb (h .len) (n + m)) (λ t. simp t e) (λ t. simp t)
-part-taken m n h (inr k) = simp (le-ltb (h .len) (n + m) k)
-
 -- a map's free spans are its holes
 pub spans-holes : (m : List ℕ) → Editable m → spansOn m ≡ holesFrom (geometryOf m) 0 ((geometryOf m) .zones) (piecesOn (geometryOf m) m)
 spans-holes m ed = sym (holes-are-spans m (zonesOf m) (ed .accepted) (ed .apart))
@@ -206,9 +170,8 @@ module _ (m : List ℕ) (ed : Editable m) (size parent : ℕ) (inside : parent <
       let s = span-hole h i in
       none-found g l (need g size) parent (zonesNear (g .zones) parent) e (zoneOf g (h .start)) (near-named (g .zones) parent inside (zoneOf g (h .start)) (s .0)) h (s .1)
 
-  -- the id and the hole found keep the rules
-  module _ (any : ℕ) (h : Pair) (ei : lowestId (geometryOf m) (unused (piecesOn (geometryOf m) m)) ≡ some any)
-      (eh : firstHole (need (geometryOf m) size) (holesNear (geometryOf m) (piecesOn (geometryOf m) m) parent) ≡ some h) where
+  -- the nearest hole that is long enough
+  module _ (h : Pair) (eh : firstHole (need (geometryOf m) size) (holesNear (geometryOf m) (piecesOn (geometryOf m) m) parent) ≡ some h) where
     near : InNearest (geometryOf m) (piecesOn (geometryOf m) m) (need (geometryOf m) size) parent (zonesNear ((geometryOf m) .zones) parent) h
     near = nearest-first g l (need g size) parent (zonesNear (g .zones) parent) (ranked-near (g .zones) parent inside) h eh
 
@@ -220,9 +183,6 @@ module _ (m : List ℕ) (ed : Editable m) (size parent : ℕ) (inside : parent <
 
     zone-is : zoneOf (geometryOf m) (h .start) ≡ near .zone
     zone-is = hole-zone g l ok fit (near .zone) there-zone h (in-it .0)
-
-    pub near-free : In h (spansOn m) × (need (geometryOf m) size ≤ h .len)
-    near-free = (subst⁻¹ (In h) (spans-holes m ed) (holes-in g 0 (g .zones) l (near .zone) (omega arith) (omega (arith, there-zone)) h (in-it .0)), in-it .1)
 
     nearest : (q : Pair) → In q (spansOn m) → Nearer parent (zoneOf (geometryOf m) (q .start)) (zoneOf (geometryOf m) (h .start)) → q .len < need (geometryOf m) size
     nearest q i n =
@@ -239,27 +199,115 @@ module _ (m : List ℕ) (ed : Editable m) (size parent : ℕ) (inside : parent <
         (subst (λ (x : ℕ). In q (holesIn g l x)) (e ∙ zone-is) (s .1))
         (earlier-below (zoneFrom g 0) hs up q h (subst (Earlier q h) (spans-holes m ed) k))
 
-    pub claim-rules : ClaimRules m size parent (idFor (geometryOf m) (piecesOn (geometryOf m) m) any h) (taken ((geometryOf m) .shortest) (need (geometryOf m) size) h)
-    claim-rules =
-        let n = need g size in
-        let id = idFor g l any h in
-        let z = zoneOf g (h .start) in
-        let found = id-found g l any h ei in
-        let o = id-ordinary g l z id found in
-        let r = id-rules m z id found in
+    nearest-hole : NearestHole m size parent h
+    nearest-hole = record {
+      free = subst⁻¹ (In h) (spans-holes m ed) (holes-in g 0 (g .zones) l (near .zone) (omega arith) (omega (arith, there-zone)) h (in-it .0));
+      enough = in-it .1;
+      nearest = nearest;
+      first = first-there;
+    }
+
+  -- the holes in the order in which they are taken
+  abbrev order : List Pair
+  order = inTurn (geometryOf m) (piecesOn (geometryOf m) m) (firstHole (need (geometryOf m) size) (holesNear (geometryOf m) (piecesOn (geometryOf m) m) parent))
+
+  holes-in-turn : (o : Option Pair) → firstHole (need (geometryOf m) size) (holesNear (geometryOf m) (piecesOn (geometryOf m) m) parent) ≡ o
+      → InTurn m size parent (inTurn (geometryOf m) (piecesOn (geometryOf m) m) o)
+  holes-in-turn (some h) e = one h (nearest-hole h e)
+  holes-in-turn none e =
+      let hs = holesFrom g 0 (g .zones) l in
+      several (bySize hs) (none-near e)
+      (subst⁻¹ (λ (x : List Pair). LargestFirst x (bySize hs)) (spans-holes m ed) (largest-first hs (ascends-apart (zoneFrom g 0) hs (all-holes-ascend g l ok fit 0 (g .zones) (omega arith)))))
+
+  some-need : 0 < need (geometryOf m) size
+  some-need = omega (arith, some-bits g ok, need-long g size)
+
+  -- 15: they have no more bits than all free spans together, and as many where no single one is enough
+  order-total : (o : Option Pair) → firstHole (need (geometryOf m) size) (holesNear (geometryOf m) (piecesOn (geometryOf m) m) parent) ≡ o
+      → total (inTurn (geometryOf m) (piecesOn (geometryOf m) m) o) ≤ total (spansOn m)
+  order-total (some h) e = omega (arith, total-in h (spansOn m) (nearest-hole h e .free))
+  order-total none e = omega (arith, total-sorted leads (holesFrom g 0 (g .zones) l), ap total (spans-holes m ed))
+
+  pub too-few-bits : takenFor (geometryOf m) (piecesOn (geometryOf m) m) (need (geometryOf m) size) parent ≡ none → total (spansOn m) < need (geometryOf m) size
+  too-few-bits e = go (firstHole (need g size) (holesNear g l parent)) refl (refused-too-few (g .shortest) (need g size) order e)
+    where
+      go : (o : Option Pair) → firstHole (need (geometryOf m) size) (holesNear (geometryOf m) (piecesOn (geometryOf m) m) parent) ≡ o
+          → total (inTurn (geometryOf m) (piecesOn (geometryOf m) m) o) < need (geometryOf m) size → total (spansOn m) < need (geometryOf m) size
+      go (some h) k f = absurd (omega (arith, f, nearest-hole h k .enough))
+      go none k f = omega (arith, f, total-sorted leads (holesFrom g 0 (g .zones) l), ap total (spans-holes m ed))
+
+  -- the id and the pairs found keep the rules
+  module _ (pos : 0 < size) (any : ℕ) (t : List Pair) (ei : lowestId (geometryOf m) (unused (piecesOn (geometryOf m) m)) ≡ some any)
+      (et : takenFor (geometryOf m) (piecesOn (geometryOf m) m) (need (geometryOf m) size) parent ≡ some t) where
+    abbrev id : ℕ
+    id = idFor (geometryOf m) (piecesOn (geometryOf m) m) any t
+
+    abbrev qs : List Pair
+    qs = inObjectOrder (geometryOf m) (idFor (geometryOf m) (piecesOn (geometryOf m) m) any t) t
+
+    front : FrontTaken ((geometryOf m) .shortest) (need (geometryOf m) size) order t
+    front = front-taken (g .shortest) (need g size) order t some-need et
+
+    pub enough-bits : need (geometryOf m) size ≤ total (spansOn m)
+    enough-bits =
+        let f = front in
+        omega (arith, ap total (f .holes-are), total-append (f .whole) (f .hole ∷ f .behind), f .remains, f .enough, order-total (firstHole (need g size) (holesNear g l parent)) refl)
+
+    from-front : FromFront m size order t
+    from-front =
+        let f = front in
+        let s = g .shortest in
+        let n : f .last .len ≡ cutBits s (f .rest) (f .hole .len) = ap (λ (q : Pair). q .len) (f .last-is) in
         record {
-          hole = h;
-          free = near-free .0;
-          enough = near-free .1;
-          nearest = nearest;
-          first = first-there;
-          start = refl;
-          whole = λ lo hi. simp (lt-ltb (h .len) (n + g .shortest) hi);
-          part = part-taken (g .shortest) n h;
+          whole = f .whole;
+          hole = f .hole;
+          behind = f .behind;
+          last = f .last;
+          holes-are = f .holes-are;
+          taken-are = f .taken-are;
+          rest = f .rest;
+          remains = f .remains;
+          some-remain = f .some-remain;
+          enough = f .enough;
+          start = ap (λ (q : Pair). q .start) (f .last-is);
+          part = λ k. n ∙ simp (le-ltb (f .hole .len) (max (f .rest) s + s) k);
+          all-of-it = λ k. n ∙ simp (lt-ltb (f .hole .len) (max (f .rest) s + s) k);
+        }
+
+    -- with room for them, a claim of these pairs is accepted; so they are a list that a place takes
+    claim-judged : judge (geometryOf m) none (piecesOn (geometryOf m) m) (claim size parent (2 * length qs)) ≡ answered (gives id qs)
+    claim-judged =
+        simp (lt-ltb 0 size pos, lt-ltb parent (g .zones) inside)
+        (ap (byChoice (2 * length qs)) (ap₂ (λ (x : Option ℕ) (y : Option (List Pair)). chooseIn g l x y) ei et)
+        ∙ simp (le-leb (2 * length qs) (2 * length qs) (omega arith)))
+
+    list-rules : ListRules (geometryOf m) id (numbersOf qs)
+    list-rules =
+        let k = given-placed g ok (record { pieces = l; cross = [] }) (map-disc m (zonesOf m) (ed .bytes) (ed .accepted) .pieces) (claim size parent (2 * length qs)) id qs claim-judged in
+        fits-gives-rules g ok id (numbersOf qs) (place-tests g l id (numbersOf qs) (gives id qs) k .2)
+
+    pub claim-rules : ClaimRules m size parent id qs
+    claim-rules =
+        let first = first-taken g front in
+        let found = subst (λ (z : ℕ). IdFor g l z id) (first .3) (id-found g l any t ei) in
+        let o = id-ordinary g l (zoneOf g (first .0 .start)) id found in
+        let r = id-rules m (zoneOf g (first .0 .start)) id found in
+        let list = list-rules in
+        record {
+          order = order;
+          in-turn = holes-in-turn (firstHole (need g size) (holesNear g l parent)) refl;
+          taken = t;
+          front = from-front;
+          first = first .0;
+          others = first .1;
+          first-is = first .2;
           from-3 = o .0;
           below = o .1;
           unused = same-pieces g id l [] (empty (piecesOf id l) (o .2));
           lowest-there = r .lowest-there;
           none-there = r .none-there;
           lowest-of-all = r .lowest-of-all;
+          same-pairs = λ q. (in-order-in g id t q, in-in-order g id t q);
+          some-bits = λ q i. omega (arith, some-bits g ok, list .pairs q (subst⁻¹ (In q) (pairs-numbers qs) i) .long);
+          in-order = subst (λ (x : List Pair). (q p : Pair) → Earlier q p x → InObjectOrder g (startZone g id) q p) (pairs-numbers qs) (list .in-order);
         }

@@ -103,16 +103,16 @@ key-edit g s (takes id qs) n h w =
 below-limit : (g : Geometry) (id : ℕ) → editable g id ≡ true → id < g .ids * g .zones
 below-limit g id t = ltb-true id (g .ids * g .zones) ((both (leb 3 id) (ltb id (g .ids * g .zones)) t) .1)
 
-pub edit-number : (g : Geometry) (l : List Piece) (c : Call) (e : Edit) → judge g none l c ≡ answered e → editId e < g .ids * g .zones
-edit-number g l (release id room) e h =
+pub edit-number : (g : Geometry) → AcceptedGeometry g → (l : List Piece) (c : Call) (e : Edit) → judge g none l c ≡ answered e → editId e < g .ids * g .zones
+edit-number g ok l (release id room) e h =
     let t = release-tests g l id room e h in
     subst (λ (x : Edit). editId x < g .ids * g .zones) (t .3) (below-limit g id (t .0))
-edit-number g l (place id list) e h =
+edit-number g ok l (place id list) e h =
     let t = place-tests g l id list e h in
     subst (λ (x : Edit). editId x < g .ids * g .zones) (t .4) (below-limit g id (t .0))
-edit-number g l (claim size parent) e h =
-    let t = claim-tests g l size parent e h in
-    subst (λ (x : Edit). editId x < g .ids * g .zones) (t .3) (below-limit g (t .0) (chosen-id g l size parent (t .0) (t .1) (t .2) .ordinary))
+edit-number g ok l (claim size parent room) e h =
+    let t = claim-tests g l size parent room e h in
+    subst (λ (x : Edit). editId x < g .ids * g .zones) (t .3) (below-limit g (t .0) (chosen-id g l size parent (t .0) (t .1) (t .2) ok .ordinary))
 
 -- a run keeps the key
 pub run-key : (g : Geometry) (s : Disc) (cs : List Call) → AcceptedGeometry g → FitPieces g (s .pieces)
@@ -129,7 +129,7 @@ run-key g s (c ∷ cs) f k = go (judge g none (s .pieces) c) refl (λ r h. run-k
     go (refused n zone) h ih = ih s k
     go (answered e) h ih =
         let a = allowed g (s .pieces) c e f k h in
-        ih (edit g e s) (a .1 (s .cross)) ∙ key-edit g s e (g .ids * g .zones) (edit-number g (s .pieces) c e h) (listed-after g s e (a .0))
+        ih (edit g e s) (a .1 (s .cross)) ∙ key-edit g s e (g .ids * g .zones) (edit-number g f (s .pieces) c e h) (listed-after g s e (a .0))
 
 -- so where two runs leave the same pieces, they leave the same cross checks
 pub runs-cross-same : (g : Geometry) (s : Disc) (cs ds : List Call) → AcceptedGeometry g → FitPieces g (s .pieces)

@@ -9,11 +9,13 @@ pub mod FreeBits
 pub mod StepLaws
 pub mod EveryRun
 pub mod ZonesTried
+pub mod SortedOnce
 pub mod ClaimsJudged
 pub mod MapRefused
 pub mod MapsEdited
 pub mod NeverFourteen
 pub mod NeedRules
+pub mod ClaimedBits
 pub mod Touches
 pub mod RoomForList
 pub mod OneClaim

@@ -1,12 +1,12 @@
--- A claim's need in document 01's words: whole clusters, at least m, enough for the size, and the least such number.
+-- A claim's need in document 01's words: it is enough for the size, and the least such number. That it has at least m bits and is in whole clusters is shown
+-- where a claim is judged.
 use mathlib.Core.Path.{_≡_, sym, ap, _∙_}
 use Prim.Native.Nat.{ℕ, suc, _+_, _-_, _*_, _/_, _%_, _<_, _≤_}
-use native.Mathlib.Nat.{div-add-mod', mod-lt, mul-assoc, mul-mod-left, mul-le-mul, mul-le-mul-right, suc-mul, div-lt-iff-lt-mul, le-max-left, le-max-right, max-le}
+use native.Mathlib.Nat.{div-add-mod', mod-lt, mul-assoc, mul-le-mul, mul-le-mul-right, suc-mul, div-lt-iff-lt-mul, le-max-right, max-le}
 use native.Mathlib.Omega.{arith}
 use Rattle.geometry.specs.declared.Geometry.{Geometry}
 use Rattle.geometry.specs.Accepted.{AcceptedGeometry}
 use Rattle.edits.specs.Judge.{need}
-use Rattle.edits.proofs.ClustersKept.{max-whole}
 
 module _ (g : Geometry) (ok : AcceptedGeometry g) (size : ℕ) where
   abbrev bytes : ℕ
@@ -18,12 +18,6 @@ module _ (g : Geometry) (ok : AcceptedGeometry g) (size : ℕ) where
 
   some-bytes : 0 < bytes
   some-bytes = let l : 1 * 128 ≤ bytes = mul-le-mul (ok .cluster-low) (ok .unit-low) in omega arith
-
-  pub need-long : g .shortest ≤ need g size
-  need-long = le-max-left (g .shortest) (parts * g .cluster)
-
-  pub need-clusters : need g size % g .cluster ≡ 0
-  need-clusters = max-whole (g .cluster) (g .shortest) (parts * g .cluster) (ok .shortest-clusters) (mul-mod-left parts (g .cluster))
 
   pub need-enough : size ≤ need g size * g .unit
   need-enough =

@@ -148,17 +148,17 @@ module _ (m : List ℕ) (ed : Editable m) where
       let P = s .pieces in
       let e = gives id qs in
       let h = verdict c e a in
-      let f = given-facts (geometryOf m) P c id qs h in
+      let f = given-facts (geometryOf m) ok P c id qs h in
       let k = release-back (geometryOf m) id room qs P (allowed (geometryOf m) P c e ok (pieces-ok .fit) h .0) (f .ordinary) (f .some-pairs) n in (
         reads-outcome (geometryOf m) (edit (geometryOf m) e s) (step m c) (after-reads c e a) (release id room) (takes id qs) k,
         undo c (release id room) e (takes id qs) h k (strike [] [] (released id qs qs) nothing),
       )
 
-  pub claim-places : (size parent id : ℕ) (qs : List Pair) → Accepted m (claim size parent) (gives id qs)
-      → Accepted m (place id (numbersOf qs)) (gives id qs) × (step m (place id (numbersOf qs)) ≡ step m (claim size parent))
-  claim-places size parent id qs a =
-      let h = verdict (claim size parent) (gives id qs) a in
-      let k = given-placed (geometryOf m) ok s pieces-ok (claim size parent) id qs h in
+  pub claim-places : (size parent room id : ℕ) (qs : List Pair) → Accepted m (claim size parent room) (gives id qs)
+      → Accepted m (place id (numbersOf qs)) (gives id qs) × (step m (place id (numbersOf qs)) ≡ step m (claim size parent room))
+  claim-places size parent room id qs a =
+      let h = verdict (claim size parent room) (gives id qs) a in
+      let k = given-placed (geometryOf m) ok s pieces-ok (claim size parent room) id qs h in
       let x = step-accepted m (zonesOf m) (ed .bytes) (ed .accepted) (ed .apart) (place id (numbersOf qs)) (gives id qs) k in
-      let y = step-accepted m (zonesOf m) (ed .bytes) (ed .accepted) (ed .apart) (claim size parent) (gives id qs) h in
+      let y = step-accepted m (zonesOf m) (ed .bytes) (ed .accepted) (ed .apart) (claim size parent room) (gives id qs) h in
       (accept (place id (numbersOf qs)) (gives id qs) k, x .1 ∙ sym (y .1))

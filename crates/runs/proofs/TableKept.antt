@@ -24,7 +24,7 @@ use Rattle.model.proofs.MapJudged.{rules-accepted}
 use Rattle.model.proofs.LinesJudged.{OneZone, line-one, unless-says, unless-line, table-says, by-table}
 use Rattle.edits.specs.Edits.{Edit, give, takes, gives}
 use Rattle.edits.specs.Holes.{allApart}
-use Rattle.edits.specs.Judge.{release, place, claim, isEmpty, editable, pairsFrom, pairsFit, listFits, need, firstHole, holesNear, taken, lowestId, unused, idFor, chooseIn, chosen, claimFits, byChoice, judgeRest, byTouching}
+use Rattle.edits.specs.Judge.{release, place, claim, isEmpty, editable, pairsFrom, pairsFit, listFits, need, takenFor, lowestId, unused, idFor, choice, inObjectOrder, chooseIn, chosen, claimFits, byRoom, byChoice, judgeRest, byTouching}
 use Rattle.edits.specs.Steps.{byRead, outcome}
 use Rattle.edits.specs.Editable.{Editable}
 use Rattle.edits.proofs.Chosen.{empty, lowest-id, no-lowest-id}
@@ -33,12 +33,13 @@ use Rattle.edits.proofs.PairsGiven.{none-listed}
 use Rattle.edits.proofs.ReadsAfter.{same-pieces}
 use Rattle.runs.specs.ListRules.{ListRules}
 use Rattle.runs.specs.ListRoom.{NoRoom}
-use Rattle.runs.specs.Refusals.{nine, ten, eleven, twelve, twelveClaim, thirteen, fourteen, fifteen, seventeen, releaseLines, placeLines, claimLines, ClaimTakes}
+use Rattle.runs.specs.Claims.{ClaimRules}
+use Rattle.runs.specs.Refusals.{nine, ten, eleven, twelve, twelveClaim, thirteen, fourteen, fifteen, seventeen, seventeenClaim, releaseLines, placeLines, claimLines, ClaimTakes}
 use Rattle.runs.proofs.Touches.{map-apart, map-touches}
 use Rattle.runs.proofs.Twelve.{fits-gives-rules, rules-give-fits}
 use Rattle.runs.proofs.RoomForList as room
-use Rattle.runs.proofs.ClaimsJudged.{none-near, near-free, claim-rules}
-use Rattle.runs.proofs.OneClaim.{one-claim}
+use Rattle.runs.proofs.ClaimsJudged.{too-few-bits, enough-bits, claim-rules}
+use Rattle.runs.proofs.OneClaim.{same-list, one-claim}
 
 -- 9 tells one zone
 pub nine-one : (m : List ℕ) → OneZone (nine m)
@@ -174,32 +175,35 @@ module _ (m : List ℕ) where
           (place-lines (read-zones ess e)))
 
     -- claim
-    module _ (size parent : ℕ) where
-      claimed : Editable m → parent < (geometryOf m) .zones
-          → LinesSay (fourteen m ∷ fifteen m size ∷ []) (ClaimTakes m size parent) (byChoice (chosen (geometryOf m) (piecesOn (geometryOf m) m) size parent))
-      claimed ed inside = go (lowestId g (unused l)) refl (firstHole n hs) refl
+    module _ (size parent room : ℕ) where
+      -- 17, for what the rules give
+      room-line : (id : ℕ) (qs : List Pair) → ClaimRules m size parent id qs → LinesSay (seventeenClaim m size parent room ∷ []) (ClaimTakes m size parent) (byRoom room (choice id qs))
+      room-line id qs r =
+          let n = 2 * length qs in
+          unless-says (leb n room) 17 ((i : ℕ) × (ps : List Pair) × ClaimRules m size parent i ps × (room < 2 * length ps)) [] (ClaimTakes m size parent) (answered (gives id qs))
+          (λ t. (id, qs, r, leb-false n room t))
+          (λ t k. omega (arith, leb-true n room t, k .3, ap length (same-list m size parent id (k .0) qs (k .1) r (k .2))))
+          (λ t. (id, qs, refl, r))
+
+      claimed : Editable m → 0 < size → parent < (geometryOf m) .zones
+          → LinesSay (fourteen m ∷ fifteen m size ∷ seventeenClaim m size parent room ∷ []) (ClaimTakes m size parent) (byChoice room (chosen (geometryOf m) (piecesOn (geometryOf m) m) size parent))
+      claimed ed pos inside = go (lowestId g (unused l)) refl (takenFor g l (need g size) parent) refl
         where
-          n : ℕ
-          n = need (geometryOf m) size
-
-          hs : List Pair
-          hs = holesNear (geometryOf m) (piecesOn (geometryOf m) m) parent
-
           some-unused : (id : ℕ) → lowestId (geometryOf m) (unused (piecesOn (geometryOf m) m)) ≡ some id
               → ((i : ℕ) → 3 ≤ i → i < (geometryOf m) .ids * (geometryOf m) .zones → listedOn m i ≡ [] → ⊥) → ⊥
           some-unused id a k = let i = lowest-id g (unused l) id a in k id (i .from-3) (i .below) (absent id (i .passes))
 
-          go : (i : Option ℕ) → lowestId (geometryOf m) (unused (piecesOn (geometryOf m) m)) ≡ i → (o : Option Pair) → firstHole n hs ≡ o
-              → LinesSay (fourteen m ∷ fifteen m size ∷ []) (ClaimTakes m size parent) (byChoice (chooseIn (geometryOf m) (piecesOn (geometryOf m) m) n i o))
+          go : (i : Option ℕ) → lowestId (geometryOf m) (unused (piecesOn (geometryOf m) m)) ≡ i
+              → (o : Option (List Pair)) → takenFor (geometryOf m) (piecesOn (geometryOf m) m) (need (geometryOf m) size) parent ≡ o
+              → LinesSay (fourteen m ∷ fifteen m size ∷ seventeenClaim m size parent room ∷ []) (ClaimTakes m size parent) (byChoice room (chooseIn (geometryOf m) (piecesOn (geometryOf m) m) i o))
           go none a o b = inl (0, (refl, λ i lo hi k. false≢true (sym (no-lowest-id g (unused l) a i lo hi) ∙ listed i k)), refl)
-          go (some id) a none b = inr ((λ z p. some-unused id a (p .1)), inl (0, (refl, none-near m ed size parent inside b), refl))
-          go (some id) a (some h) b =
-              let k = near-free m ed size parent inside id h a b in
+          go (some id) a none b = inr ((λ z p. some-unused id a (p .1)), inl (0, (refl, too-few-bits m ed size parent inside b), refl))
+          go (some id) a (some t) b =
               inr (
                 (λ z p. some-unused id a (p .1)),
                 inr (
-                  (λ z p. omega (arith, k .1, p .1 h (k .0))),
-                  (idFor g l id h, taken (g .shortest) n h, refl, claim-rules m ed size parent inside id h a b),
+                  (λ z p. omega (arith, p .1, enough-bits m ed size parent inside pos id t a b)),
+                  room-line (idFor g l id t) (inObjectOrder g (idFor g l id t) t) (claim-rules m ed size parent inside pos id t a b),
                 ),
               )
 
@@ -216,16 +220,16 @@ module _ (m : List ℕ) where
       not-both f (inl e) = omega (arith, f .0)
       not-both f (inr e) = omega (arith, f .1)
 
-      claim-lines : mapRead m ≡ answered (zonesOf m) → LinesSay (claimLines m size parent) (ClaimTakes m size parent) (byRead (geometryOf m) (claim size parent) (zonesOf m))
+      claim-lines : mapRead m ≡ answered (zonesOf m) → LinesSay (claimLines m size parent room) (ClaimTakes m size parent) (byRead (geometryOf m) (claim size parent room) (zonesOf m))
       claim-lines r =
-          let rest = fourteen m ∷ fifteen m size ∷ [] in
-          let v = byChoice (chosen g l size parent) in
+          let rest = fourteen m ∷ fifteen m size ∷ seventeenClaim m size parent room ∷ [] in
+          let v = byChoice room (chosen g l size parent) in
           touch-line r (twelveClaim m size parent ∷ rest) (ClaimTakes m size parent) (unless (claimFits g size parent) 12 v) (touching 0 (zonesOf m)) refl
           (λ n. unless-says (claimFits g size parent) 12 ((size ≡ 0) ⊎ (g .zones ≤ parent)) rest (ClaimTakes m size parent) v
-          unfit (λ t. not-both (fits t)) (λ t. claimed (editable-map r n) (fits t .1)))
+          unfit (λ t. not-both (fits t)) (λ t. claimed (editable-map r n) (fits t .0) (fits t .1)))
 
-      pub claim-by-table : Exactly (TableSays m (claimLines m size parent) (ClaimTakes m size parent)) (outcome m (claim size parent))
+      pub claim-by-table : Exactly (TableSays m (claimLines m size parent room) (ClaimTakes m size parent)) (outcome m (claim size parent room))
       claim-by-table =
-          table-says m (claimLines m size parent) (ClaimTakes m size parent) (nine-one m, (line-one 12 _, (line-one 14 _, (line-one 15 _, tt)))) (one-claim m size parent) (byRead g (claim size parent))
-          (λ ess e. subst (λ (x : List (List Entry)). LinesSay (claimLines m size parent) (ClaimTakes m size parent) (byRead g (claim size parent) x)) (zones-read ess e)
+          table-says m (claimLines m size parent room) (ClaimTakes m size parent) (nine-one m, (line-one 12 _, (line-one 14 _, (line-one 15 _, (line-one 17 _, tt))))) (one-claim m size parent) (byRead g (claim size parent room))
+          (λ ess e. subst (λ (x : List (List Entry)). LinesSay (claimLines m size parent room) (ClaimTakes m size parent) (byRead g (claim size parent room) x)) (zones-read ess e)
           (claim-lines (read-zones ess e)))

@@ -80,9 +80,9 @@ pub record Demand3 : Type 0 where
   -- "An accepted place or claim followed at once by its release, again with room, does the same."
   pub given-release : (m : List ℕ) → Editable m → (c : Call) (id room : ℕ) (qs : List Pair) → Accepted m c (gives id qs) → 2 * length qs ≤ room
       → Accepted (step m c) (release id room) (takes id qs) × (steps m (c ∷ release id room ∷ []) ≡ m)
-  -- an accepted claim is the place of its pair under its id
-  pub claim-places : (m : List ℕ) → Editable m → (size parent id : ℕ) (qs : List Pair) → Accepted m (claim size parent) (gives id qs)
-      → Accepted m (place id (numbersOf qs)) (gives id qs) × (step m (place id (numbersOf qs)) ≡ step m (claim size parent))
+  -- an accepted claim is the place of its list under its id
+  pub claim-places : (m : List ℕ) → Editable m → (size parent room id : ℕ) (qs : List Pair) → Accepted m (claim size parent room) (gives id qs)
+      → Accepted m (place id (numbersOf qs)) (gives id qs) × (step m (place id (numbersOf qs)) ≡ step m (claim size parent room))
   -- every run
   pub every-run : (m : List ℕ) → Editable m → (cs : List Call) → RunLaws m cs
   -- stronger than asked: every byte after a run is a function of the starting map and the present pieces. Two runs from one map that leave

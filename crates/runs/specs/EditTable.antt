@@ -24,6 +24,6 @@ pub record EditTable : Type 0 where
   -- "Place: gives the listed pieces to an absent id"
   pub place-by-table : (m : List ℕ) → Bytes m → (id : ℕ) (list : List ℕ)
       → Exactly (ByTable m (placeLines m id list) (gives id (pairsFrom list))) (outcome m (place id list))
-  -- "Claim: given a size in bytes", and a parent zone: the id and the pair by their rules
-  pub claim-by-table : (m : List ℕ) → Bytes m → (size parent : ℕ)
-      → Exactly (TableSays m (claimLines m size parent) (ClaimTakes m size parent)) (outcome m (claim size parent))
+  -- "Claim: given a size in bytes", a parent zone and room for a list: the id and the pairs by their rules
+  pub claim-by-table : (m : List ℕ) → Bytes m → (size parent room : ℕ)
+      → Exactly (TableSays m (claimLines m size parent room) (ClaimTakes m size parent)) (outcome m (claim size parent room))

@@ -11,6 +11,7 @@ use Rattle.model.specs.Answer.{Answer, answered}
 use Rattle.model.specs.Chain.{Pair}
 use Rattle.model.specs.Refusals.{Refusing, line, Outside, NotThere, TooFew}
 use Rattle.model.specs.Shown.{listedOn, spansOn}
+use Rattle.split.specs.Taken.{total}
 use Rattle.edits.specs.Edits.{Edit, gives}
 use Rattle.edits.specs.Judge.{need}
 use Rattle.edits.specs.Room.{In}
@@ -67,13 +68,17 @@ module _ (m : List ℕ) where
   abbrev pub fourteen : Refusing
   fourteen = line 14 ((id : ℕ) → 3 ≤ id → id < (geometryOf m) .ids * (geometryOf m) .zones → NotThere m id → ⊥)
 
-  -- 15: "claim: no hole of length need", wherever the parent zone is
+  -- 15: by R-8 "given exactly if all free bits together are fewer than need", wherever the parent zone is
   abbrev pub fifteen : ℕ → Refusing
-  fifteen size = line 15 ((h : Pair) → In h (spansOn m) → h .len < need (geometryOf m) size)
+  fifteen size = line 15 (total (spansOn m) < need (geometryOf m) size)
 
   -- 17: "too few entries for the pairs"
   abbrev pub seventeen : ℕ → ℕ → Refusing
   seventeen id room = line 17 (TooFew room (listedOn m id))
+
+  -- "The answer becomes a list .. so 17 may be given": for the pairs that the rules of a claim give
+  abbrev pub seventeenClaim : ℕ → ℕ → ℕ → Refusing
+  seventeenClaim size parent room = line 17 ((id : ℕ) × (qs : List Pair) × ClaimRules m size parent id qs × TooFew room qs)
 
   -- each call's lines
   abbrev pub releaseLines : ℕ → ℕ → List Refusing
@@ -82,9 +87,9 @@ module _ (m : List ℕ) where
   abbrev pub placeLines : ℕ → List ℕ → List Refusing
   placeLines id list = eight id ∷ nine ∷ eleven id ∷ twelve id list ∷ thirteen list ∷ []
 
-  abbrev pub claimLines : ℕ → ℕ → List Refusing
-  claimLines size parent = nine ∷ twelveClaim size parent ∷ fourteen ∷ fifteen size ∷ []
+  abbrev pub claimLines : ℕ → ℕ → ℕ → List Refusing
+  claimLines size parent room = nine ∷ twelveClaim size parent ∷ fourteen ∷ fifteen size ∷ seventeenClaim size parent room ∷ []
 
-  -- what a claim that none of these refuses answers: one pair goes to one id, by the rules
+  -- what a claim that none of these refuses answers: pairs go to one id, by the rules
   abbrev pub ClaimTakes : ℕ → ℕ → Answer Edit → Type 0
-  ClaimTakes size parent r = (id : ℕ) × (q : Pair) × (r ≡ answered (gives id (q ∷ []))) × ClaimRules m size parent id q
+  ClaimTakes size parent r = (id : ℕ) × (qs : List Pair) × (r ≡ answered (gives id qs)) × ClaimRules m size parent id qs

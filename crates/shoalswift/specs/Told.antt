@@ -7,10 +7,9 @@ use lib.ListN.{length}
 use Rattle.model.specs.Answer.{Answer}
 use Rattle.model.specs.Chain.{Pair}
 use Rattle.edits.specs.Judge.{release, place, claim}
-use Rattle.edits.specs.Steps.{outcome, step}
+use Rattle.edits.specs.Steps.{outcome, pairsTold, step}
 use Rattle.listing.specs.Listed.{listTold, listAfter}
 use Rattle.sweep.specs.Sweep.{Class, sweepTold, imageAfter}
-use Rattle.release.specs.Released.{pairsTaken}
 use Rattle.place.specs.Placed.{placeTold}
 use Rattle.claim.specs.Claimed.{claimTold}
 use Rattle.copies.specs.Copies.{copyJudged, copyTold, targetAfter}
@@ -26,16 +25,17 @@ pub record SweepTold (found : ℕ → ℕ → Answer Class) (first fill : ℕ) (
   pub image : new ≡ imageAfter first fill old (found first (length old))
 
 pub record ReleaseTold (m : List ℕ) (id : ℕ) (old : List ℕ) (told : ℕ × ℕ × ℕ) (after new : List ℕ) : Type 0 where
-  pub lists : ListTold (λ room. pairsTaken (outcome m (release id room))) old told new
+  pub lists : ListTold (λ room. pairsTold (outcome m (release id room))) old told new
   pub bytes : after ≡ step m (release id (length old))
 
 pub record PlaceTold (m : List ℕ) (id : ℕ) (list : List ℕ) (told : ℕ × ℕ) (after : List ℕ) : Type 0 where
   pub numbers : told ≡ placeTold (outcome m (place id list))
   pub bytes : after ≡ step m (place id list)
 
-pub record ClaimTold (m : List ℕ) (size parent : ℕ) (told : ℕ × ℕ × ℕ × ℕ × ℕ) (after : List ℕ) : Type 0 where
-  pub numbers : told ≡ claimTold (outcome m (claim size parent))
-  pub bytes : after ≡ step m (claim size parent)
+pub record ClaimTold (m : List ℕ) (size parent : ℕ) (old : List ℕ) (told : ℕ × ℕ × ℕ × ℕ) (after new : List ℕ) : Type 0 where
+  pub numbers : told ≡ claimTold (outcome m (claim size parent (length old)))
+  pub list : new ≡ listAfter old (pairsTold (outcome m (claim size parent (length old))))
+  pub bytes : after ≡ step m (claim size parent (length old))
 
 pub record CopyTold (source target : List ℕ) (told : ℕ × ℕ) (after : List ℕ) : Type 0 where
   pub numbers : told ≡ copyTold (copyJudged source target)

@@ -198,35 +198,30 @@ pub extern "C" fn shoalswift_place(map: &mut [u8], id: u32, list: &[u32], zone: 
     }
 }
 
-// Claims room for so many bytes near a parent zone.
+// Claims room for so many bytes near a parent zone and returns the pairs in object order.
 #[no_mangle]
 pub extern "C" fn shoalswift_claim(
     map: &mut [u8],
     size: u64,
     parent: u32,
+    list: &mut [u32],
     id: &mut u32,
-    start: &mut u32,
-    len: &mut u32,
+    pairs: &mut u64,
     zone: &mut u32,
 ) -> u32
-    ensures { λ r. ⌜ ClaimTold (now (map .entry)) size parent (r, now (zone .exit), now (id .exit), now (start .exit), now (len .exit)) (now (map .exit)) ⌝ }
+    ensures { λ r.
+        ⌜ ClaimTold (now (map .entry)) size parent (now (list .entry)) (r, now (zone .exit), now (id .exit), now (pairs .exit)) (now (map .exit)) (now (list .exit)) ⌝ }
 {
-    match claim::claim(map, size, parent) {
-        Claimed::Piece {
-            id: i,
-            start: s,
-            len: n,
-        } => {
+    match claim::claim(map, size, parent, list) {
+        Claimed::Pairs { id: i, pairs: n } => {
             *id = i;
-            *start = s.0;
-            *len = n;
+            *pairs = n as u64;
             *zone = 0;
             0
         }
         Claimed::Refused(r) => {
             *id = 0;
-            *start = 0;
-            *len = 0;
+            *pairs = 0;
             *zone = r.zone;
             r.number
         }

@@ -31,10 +31,10 @@ fn next_case() -> bool {
 // the second one, or the target, in the image's place.
 fn run_case(head: &[u8; 32]) {
     let mut map = [0u8; 522240];
-    let mut list = [0u32; 2048];
+    let mut list = [0u32; 8192];
     let mut image = [0u8; 32768];
     let m = at_most(number(head, 16), 261120);
-    let k = at_most(number(head, 20), 1024);
+    let k = at_most(number(head, 20), 4096);
     let n = at_most(number(head, 24), 16384);
     run_parts(head, &mut map, m, &mut list, k, &mut image, n);
 }
@@ -91,7 +91,7 @@ fn print_changes(
 
 fn writes_list(call: u8) -> bool {
     match call {
-        2 | 3 | 7 => true,
+        2 | 3 | 7 | 9 => true,
         _ => false,
     }
 }
@@ -122,7 +122,7 @@ fn run_call(head: &[u8; 32], map: &mut [u8], list: &mut [u32], image: &mut [u8])
         6 => run_sweep_free(head, map, image),
         7 => run_release(head, map, list),
         8 => run_place(head, map, list),
-        9 => run_claim(head, map),
+        9 => run_claim(head, map, list),
         10 => run_choose_copy(map, image),
         11 => run_copy_over(map, image),
         12 => run_copy_addresses(map),
@@ -222,25 +222,23 @@ fn run_place(head: &[u8; 32], map: &mut [u8], list: &[u32]) {
     print_answer(r, zone);
 }
 
-fn run_claim(head: &[u8; 32], map: &mut [u8]) {
+fn run_claim(head: &[u8; 32], map: &mut [u8], list: &mut [u32]) {
     let mut zone = 0;
     let mut id = 0;
-    let mut start = 0;
-    let mut len = 0;
+    let mut pairs = 0;
     let r = shoalswift::shoalswift_claim(
         map,
         long(head, 8),
         word(head, 4),
+        list,
         &mut id,
-        &mut start,
-        &mut len,
+        &mut pairs,
         &mut zone,
     );
     print_text(b"claim");
     print_answer(r, zone);
     print_value(id as u64);
-    print_value(start as u64);
-    print_value(len as u64);
+    print_value(pairs);
 }
 
 fn run_choose_copy<'a>(first: &'a [u8], second: &'a [u8]) {

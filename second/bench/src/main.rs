@@ -101,7 +101,7 @@ fn print_calls(before: Option<Calls>, plan: &Plan) -> bool {
 /// All who make the calls of a size, for each name. An earlier build is none of them
 /// where it refuses the maps with 2, as one from before R-4 of document 02 does those
 /// of 255 zones, and one from before R-12 those of E+ discs. It makes no claims, which
-/// had another signature before R-6.
+/// had other signatures before R-6 and before R-8.
 fn sides_of(before: Option<Calls>, size: &Size) -> Vec<Vec<Side>> {
     let knows = |calls: &Calls| {
         let check = &size.cases[0][0];
@@ -177,7 +177,8 @@ fn print_how(times: &[Vec<Lowest>], plan: &Plan) {
          blocks of 256 bytes and 2,016 bits a zone: the most zones of version 0, and an E+ disc with idlen 19. \
          The object listed, released and placed has two pieces in every zone. sweep_free has a window of \
          1 MiB. The claim's only hole is the last of the disc, and its parent is zone 0, or in `near` the last \
-         zone; ids begin anew in each zone, and in `packed` they go up from 3 without a gap."
+         zone; ids begin anew in each zone, and in `packed` they go up from 3 without a gap. In `split` the map \
+         has no hole of more than 32 bits, and half of what is free is claimed, in pieces all over the disc."
     );
     println!();
     println!("{} The reference has overflow checks.", machine());
@@ -238,7 +239,8 @@ fn print_change(sizes: &[Size], times: &[Vec<Lowest>]) {
     println!(
         "Microseconds: after / before = ratio; after is the product, before the earlier build, which was called \
          in the same rounds and gave the same answers and bytes. Maps that it refuses with 2, as more than 127 \
-         zones and E+ discs were once, are left out, and so are claims, which had no parent zone once."
+         zones and E+ discs were once, are left out, and so are claims, which had no parent zone and no list \
+         once."
     );
     println!();
     let mut names = NAMES.to_vec();

@@ -29,6 +29,10 @@ const LONG_HOLE: usize = 320;
 /// everywhere.
 const CLAIMED_BITS: u64 = 200;
 
+/// On a crowded map a group is followed by a hole of up to this many bits, in every zone,
+/// so that about a fifth of the space is free.
+const CROWDED_HOLE: usize = 32;
+
 /// The length of object 2's fragment.
 const OBJECT_2: usize = 32;
 
@@ -43,18 +47,38 @@ const SPREAD_IN_SMALL: [usize; 2] = [2, 5];
 /// The bytes of disc image that are swept, from the middle of the disc.
 pub const WINDOW: usize = 1 << 20;
 
-/// How the objects are numbered.
+/// How a map is made.
 #[derive(Clone, Copy)]
-enum Numbers {
-    /// From the first number of the zone where they lie.
+enum Layout {
+    /// Objects are numbered from the first number of the zone where they lie.
     ByZone,
-    /// From 3 upward without a gap, as a disc filled by claims had them before R-6 of
-    /// document 02.
+    /// The same fragments, numbered from 3 upward without a gap, as a disc filled by
+    /// claims had them before R-6 of document 02.
     Packed,
+    /// By zone, with short holes only, of which a claim takes many.
+    Crowded,
+}
+
+impl Layout {
+    /// The longest hole but for the one at the end of the last zone.
+    fn hole(self) -> usize {
+        match self {
+            Layout::ByZone | Layout::Packed => HOLE,
+            Layout::Crowded => CROWDED_HOLE,
+        }
+    }
+
+    /// That one.
+    fn last_hole(self) -> usize {
+        match self {
+            Layout::ByZone | Layout::Packed => LONG_HOLE,
+            Layout::Crowded => CROWDED_HOLE,
+        }
+    }
 }
 
 /// The calls measured, in the order of their columns.
-pub const NAMES: [&str; 9] = [
+pub const NAMES: [&str; 10] = [
     "check",
     "list",
     "free",
@@ -64,6 +88,7 @@ pub const NAMES: [&str; 9] = [
     "claim",
     "claim, near",
     "claim, packed",
+    "claim, split",
 ];
 
 /// The maps of one size, and the calls to be measured on them.
@@ -119,12 +144,18 @@ impl Size {
     }
 
     fn add_map(&mut self, record: &DiscRecord, geometry: &Geometry, seed: u64) {
-        let map = make_map(record, geometry, seed, Numbers::ByZone);
-        let packed = make_map(record, geometry, seed, Numbers::Packed);
+        let make = |layout| make_map(record, geometry, seed, layout);
+        let map = make(Layout::ByZone);
         let checked = check(&map).expect("a valid map");
         self.fragments += checked.fragments().len();
-        self.free_bits += checked.free().iter().map(|hole| hole.length).sum::<usize>();
-        for (column, case) in self.cases.iter_mut().zip(calls(geometry, &map, &packed)) {
+        self.free_bits += free_bits(&map);
+        let calls = calls(
+            geometry,
+            &map,
+            &make(Layout::Packed),
+            &make(Layout::Crowded),
+        );
+        for (column, case) in self.cases.iter_mut().zip(calls) {
             column.push(case);
         }
     }
@@ -177,21 +208,27 @@ fn accepted(record: &DiscRecord) -> Geometry {
 /// A map of the largest size with 1,024-byte blocks.
 pub fn hard_disc(seed: u64) -> Vec<u8> {
     let record = record(ZONES[ZONES.len() - 1]);
-    make_map(&record, &accepted(&record), seed, Numbers::ByZone)
+    make_map(&record, &accepted(&record), seed, Layout::ByZone)
 }
 
-/// The same fragments whatever the numbers, if the seed is the same.
-fn make_map(record: &DiscRecord, geometry: &Geometry, seed: u64, numbers: Numbers) -> Vec<u8> {
+/// The same fragments by zone and packed, if the seed is the same.
+fn make_map(record: &DiscRecord, geometry: &Geometry, seed: u64, layout: Layout) -> Vec<u8> {
     let mut rng = Rng::new(seed);
     let mut next_id = 3;
     let mut zones = Vec::new();
     for zone in 0..geometry.nzones {
-        if let Numbers::ByZone = numbers {
+        if let Layout::ByZone | Layout::Crowded = layout {
             next_id = 3.max((zone * geometry.ids_per_zone) as u32);
         }
-        zones.push(make_zone(&mut rng, geometry, zone, &mut next_id));
+        zones.push(make_zone(&mut rng, geometry, zone, layout, &mut next_id));
     }
     build(record, &zones)
+}
+
+/// The free map bits of a valid map.
+fn free_bits(map: &[u8]) -> usize {
+    let free = check(map).expect("a valid map").free();
+    free.iter().map(|hole| hole.length).sum()
 }
 
 /// The fragments of a zone: owner and length.
@@ -199,6 +236,7 @@ fn make_zone(
     rng: &mut Rng,
     geometry: &Geometry,
     zone: usize,
+    layout: Layout,
     next_id: &mut u32,
 ) -> Vec<(Owner, usize)> {
     let mut parts = Vec::new();
@@ -209,13 +247,13 @@ fn make_zone(
     }
     let last = zone + 1 == geometry.nzones;
     if last {
-        room -= LONG_HOLE;
+        room -= layout.last_hole();
     }
 
     let mut owned = 0;
     let shortest = geometry.shortest_fragment;
     // A whole group must fit, with a fragment after it for what is left.
-    while room >= 3 * OWNED + HOLE + shortest {
+    while room >= 3 * OWNED + layout.hole() + shortest {
         for _ in 0..rng.between(1, 3) {
             parts.push((
                 owner(geometry, owned, next_id),
@@ -224,13 +262,13 @@ fn make_zone(
             room -= parts[parts.len() - 1].1;
             owned += 1;
         }
-        let hole = rng.between(shortest, HOLE);
+        let hole = rng.between(shortest, layout.hole());
         parts.push((Owner::Free, hole));
         room -= hole;
     }
     parts.push((owner(geometry, owned, next_id), room));
     if last {
-        parts.push((Owner::Free, LONG_HOLE));
+        parts.push((Owner::Free, layout.last_hole()));
     }
     parts
 }
@@ -259,7 +297,7 @@ fn spread_id(geometry: &Geometry) -> u32 {
 }
 
 /// The calls on a map, in the order of their names.
-fn calls(geometry: &Geometry, map: &[u8], packed: &[u8]) -> [Case; NAMES.len()] {
+fn calls(geometry: &Geometry, map: &[u8], packed: &[u8], crowded: &[u8]) -> [Case; NAMES.len()] {
     let case = |call, map: &[u8]| {
         let mut case = Case::new(call, map);
         case.number = spread_id(geometry);
@@ -283,10 +321,16 @@ fn calls(geometry: &Geometry, map: &[u8], packed: &[u8]) -> [Case; NAMES.len()] 
         let mut claim = case(Call::Claim, map);
         claim.number = parent;
         claim.wide = CLAIMED_BITS * geometry.bytes_per_map_bit;
-        let claimed = claim.run().values[1] as usize;
-        assert_eq!(claimed, geometry.disc_bits() - LONG_HOLE, "another hole");
+        let start = claim.run().list[0] as usize;
+        assert_eq!(start, geometry.disc_bits() - LONG_HOLE, "another hole");
         claim
     };
+    // Half of what is free.
+    let mut split = case(Call::Claim, crowded);
+    split.number = 0;
+    split.wide = free_bits(crowded) as u64 / 2 * geometry.bytes_per_map_bit;
+    let pieces = split.run().values[1] as usize;
+    assert!(pieces > 2 * geometry.nzones, "few pieces");
     // The hole is in the last zone.
     let claim_near = claim(map, geometry.nzones as u32 - 1);
     let (claim, claim_packed) = (claim(map, 0), claim(packed, 0));
@@ -303,5 +347,6 @@ fn calls(geometry: &Geometry, map: &[u8], packed: &[u8]) -> [Case; NAMES.len()] 
         claim,
         claim_near,
         claim_packed,
+        split,
     ]
 }

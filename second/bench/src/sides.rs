@@ -68,22 +68,22 @@ pub fn sides(before: Option<Calls>) -> Vec<Side> {
 fn reference(case: &Case, lent: &mut Lent) -> Answer {
     let (map, list) = (&mut lent.map, &mut lent.list);
     let (wide, fill, id) = (case.wide, case.fill, case.number);
-    let one = |answer: Result<u64, Refusal>| answer.map(|value| [value, 0, 0]);
+    let one = |answer: Result<u64, Refusal>| answer.map(|value| [value, 0]);
     let answer = match case.call {
-        Call::Check => map::check(map).map(|_| [0; 3]),
+        Call::Check => map::check(map).map(|_| [0; 2]),
         Call::List => one(read::list(map, id, list)),
         Call::Free => one(read::free(map, list)),
         Call::SweepFree => one(read::sweep_free(map, &mut lent.image, wide, fill)),
         Call::Release => one(edit::release(map, id, list)),
-        Call::Place => edit::place(map, id, list).map(|_| [0; 3]),
-        Call::Claim => edit::claim(map, wide, case.number)
-            .map(|new| [new.id, new.start, new.length].map(u64::from)),
+        Call::Place => edit::place(map, id, list).map(|_| [0; 2]),
+        Call::Claim => edit::claim(map, wide, case.number, list)
+            .map(|claimed| [claimed.id as u64, claimed.pairs]),
         Call::Address | Call::SweepObject => unreachable!("not measured"),
         Call::ChooseCopy | Call::CopyOver | Call::CopyAddresses => unreachable!("not measured"),
     };
     let (number, zone, values) = match answer {
         Ok(values) => (0, 0, values),
-        Err(refusal) => (refusal.number, refusal.zone, [0; 3]),
+        Err(refusal) => (refusal.number, refusal.zone, [0; 2]),
     };
     Answer {
         number,

@@ -1,4 +1,5 @@
-//! How often each way of a claim with a parent zone came up (R-6 of document 02).
+//! How often each way of a claim with a parent zone came up (R-6 of document 02). It
+//! counts claims of one hole only: of several the parent decides nothing.
 
 use reference::case::{Call, Case, Outcome};
 use reference::edit::need;
@@ -25,7 +26,7 @@ impl Claims {
             return;
         }
         match ours.number {
-            0 => self.count_accepted(case, ours),
+            0 if ours.values[1] == 1 => self.count_accepted(case, ours),
             12 => self.no_such_parent += u64::from(case.wide != 0),
             _ => {}
         }
@@ -35,8 +36,8 @@ impl Claims {
         let checked = check(&case.map).expect("a map that was accepted");
         let geometry = &checked.geometry;
         let parent = case.number as usize;
-        let [id, start] = [0, 1].map(|index| ours.values[index] as usize);
-        let zone = geometry.zone_of(start);
+        let id = ours.values[0] as u32;
+        let zone = geometry.zone_of(ours.list[0] as usize);
         self.in_parent += u64::from(zone == parent);
         self.above += u64::from(zone > parent);
         if zone < parent {
@@ -45,7 +46,7 @@ impl Claims {
             let found = has_hole(&checked, mirrored, need(geometry, case.wide));
             self.as_far_above += u64::from(found);
         }
-        let of_zone = geometry.start_zone(id as u32) == Ok(zone);
+        let of_zone = geometry.start_zone(id) == Ok(zone);
         self.other_ids += u64::from(!of_zone);
     }
 

@@ -1,7 +1,8 @@
 //! E+ maps (R-12 of document 02) of more zones than the generator makes, with a
 //! few calls on each: what is given out is given back, so that every byte must be
-//! as before. One is for claims alone, as its ids go up without a gap, and two
-//! more are there for the addresses of their copies alone.
+//! as before. Claims take up to all holes of the disc. One map is for claims alone
+//! as its ids go up without a gap, and two more are there for the addresses of
+//! their copies alone.
 
 use reference::case::{Call, Case};
 use reference::generate::{
@@ -81,6 +82,7 @@ fn cases(map: &[u8]) -> Vec<Case> {
     released_and_placed(&mut cases, map, last);
     placed_and_released(&mut cases, &checked, map, ids / 3 * 2);
     claimed_and_released(&mut cases, map);
+    claimed_in_pieces(&mut cases, &checked, map);
     copied(&mut cases, map);
     cases
 }
@@ -136,29 +138,69 @@ fn pieces(checked: &CheckedMap, id: u32) -> Vec<u32> {
     chosen.iter().flat_map(pair).collect()
 }
 
+/// A claim of a size near a zone, with room for so many entries.
+fn claim(map: &[u8], size: u64, parent: u32, entries: usize) -> Case {
+    let mut claim = numbered(Call::Claim, map, parent, entries);
+    claim.wide = size;
+    claim
+}
+
 /// A claim near the first zone, the middle one and the last, in the first hole there
-/// is, and its release; one that no hole is long enough for, and one near a zone past
-/// the last.
+/// is, and its release; one of more bits than are free, one near a zone past the last,
+/// and one without room.
 fn claimed_and_released(cases: &mut Vec<Case>, map: &[u8]) {
     let geometry = check(map).expect("a valid map").geometry;
-    let claim = |size, parent| {
-        let mut claim = Case::new(Call::Claim, map);
-        claim.wide = size;
-        claim.number = parent;
-        claim
-    };
     let nzones = geometry.nzones as u32;
     let middle = geometry.middle_zone() as u32;
     for parent in [0, middle, nzones - 1] {
-        let claim = claim(1, parent);
+        let claim = claim(map, 1, parent, 2);
         let claimed = claim.run();
         assert_eq!(claimed.number, 0);
         let release = numbered(Call::Release, &claimed.map, claimed.values[0] as u32, 2);
         assert!(release.run().map == map);
         cases.extend([claim, release]);
     }
-    let refused = [claim(u64::MAX, middle), claim(1, nzones)];
-    assert_eq!(refused.each_ref().map(|case| case.run().number), [15, 12]);
+    let refused = [
+        claim(map, u64::MAX, middle, 2),
+        claim(map, 1, nzones, 2),
+        claim(map, 1, middle, 1),
+    ];
+    let numbers = refused.each_ref().map(|case| case.run().number);
+    assert_eq!(numbers, [15, 12, 17]);
+    cases.extend(refused);
+}
+
+/// A claim of a bit more than the longest hole has, one of half of the free bits and one
+/// of all, each released, and its list placed again; the last one also with an entry too
+/// few, and with a byte too many.
+fn claimed_in_pieces(cases: &mut Vec<Case>, checked: &CheckedMap, map: &[u8]) {
+    let lengths: Vec<u64> = checked
+        .free()
+        .iter()
+        .map(|hole| hole.length as u64)
+        .collect();
+    let longest = lengths.iter().max().expect("a hole");
+    let all: u64 = lengths.iter().sum();
+    let bytes = |bits: u64| bits * checked.geometry.bytes_per_map_bit;
+    let room = 2 * lengths.len();
+    for bits in [longest + 1, all / 2, all] {
+        let claim = claim(map, bytes(bits), 0, room);
+        let claimed = claim.run();
+        let (id, entries) = (claimed.values[0] as u32, 2 * claimed.values[1] as usize);
+        assert!(claimed.number == 0 && entries > 2);
+        let release = numbered(Call::Release, &claimed.map, id, entries);
+        let released = release.run();
+        assert!(released.map == map && released.list == claimed.list[..entries]);
+        let mut place = numbered(Call::Place, map, id, 0);
+        place.list = released.list;
+        assert!(place.run().map == claimed.map);
+        cases.extend([claim, release, place]);
+    }
+    let refused = [
+        claim(map, bytes(all), 0, room - 1),
+        claim(map, bytes(all) + 1, 0, room),
+    ];
+    assert_eq!(refused.each_ref().map(|case| case.run().number), [17, 15]);
     cases.extend(refused);
 }
 

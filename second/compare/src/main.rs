@@ -1,6 +1,7 @@
 //! Runs many calls through the product and through the reference; every
 //! answer and every lent byte must agree, and so must the geometry of every
-//! map. Sweeps of free space are made by the two programs of `sweep` too.
+//! map. Sweeps of free space are made by the two programs of `sweep` too. Each
+//! accepted claim is released again, and its list placed where it was made.
 //!
 //! SEEDS names the seeds: `N` for 0 to N-1, or `A..B` for A to B-1. If TRACE
 //! is set, each call is named before it is made, to find one that never
@@ -14,14 +15,16 @@ use std::process::ExitCode;
 mod claims;
 mod copies;
 mod large;
+mod pieces;
 mod program;
 
 use claims::Claims;
 use copies::Copies;
+use pieces::Pieces;
 use product::Told;
 use program::Program;
 use reference::case::{Call, Case, Outcome, CALLS};
-use reference::generate::{play, play_addresses, play_claims, play_copies, Sizes};
+use reference::generate::{play, play_addresses, play_claims, play_copies, play_pieces, Sizes};
 use reference::geometry::{DiscRecord, LARGEST_MAP};
 use reference::map::{check, only_reserved_bytes_are_wrong, CheckedMap};
 
@@ -228,14 +231,18 @@ struct Tally {
     touching: u64,
     touching_across_zones: u64,
     claims: Claims,
+    pieces: Pieces,
     copies: Copies,
+    /// Accepted claims that were released, and whose list was placed.
+    undone: u64,
     last_map: Vec<u8>,
+    trace: bool,
     differences: u64,
     smallest: Option<Difference>,
 }
 
 impl Tally {
-    fn new() -> Tally {
+    fn new(trace: bool) -> Tally {
         Tally {
             compared: [[0; 18]; CALLS.len() + 1],
             geometries: [0; 18],
@@ -246,10 +253,20 @@ impl Tally {
             touching: 0,
             touching_across_zones: 0,
             claims: Claims::default(),
+            pieces: Pieces::default(),
             copies: Copies::default(),
+            undone: 0,
             last_map: Vec::new(),
+            trace,
             differences: 0,
             smallest: None,
+        }
+    }
+
+    /// Names a call before it is made.
+    fn trace(&self, of: &str, step: u64, case: &Case) {
+        if self.trace {
+            eprintln!("{of}, call {step} of it: {}", case.call.name());
         }
     }
 
@@ -267,6 +284,34 @@ impl Tally {
         }
         if case.call == Call::Address && ours.number == 0 {
             self.count_touching(case, ours);
+        }
+    }
+
+    /// "An accepted place or claim followed at once by its release, again with room" gives
+    /// every byte back, and the same list. That list, placed on the map as it was before
+    /// the claim, gives the map as it was after it. Both calls are compared too.
+    fn compare_undone(&mut self, of: &str, step: u64, case: &Case, ours: &Outcome) {
+        if case.call != Call::Claim || ours.number != 0 {
+            return;
+        }
+        self.undone += 1;
+        let of = format!("{of}, after call {step}");
+        let pairs = &ours.list[..2 * ours.values[1] as usize];
+        let call = |call, map: &[u8], list| Case {
+            number: ours.values[0] as u32,
+            list,
+            ..Case::new(call, map)
+        };
+        let release = call(Call::Release, &ours.map, vec![0; pairs.len()]);
+        let place = call(Call::Place, &case.map, pairs.to_vec());
+        for (case, map, step) in [(release, &case.map, 0), (place, &ours.map, 1)] {
+            self.trace(&of, step, &case);
+            let outcome = case.run();
+            self.compare(&of, step, &case, &outcome);
+            if outcome.number != 0 || outcome.list != pairs || outcome.map != *map {
+                let text = format!("{of}, {} of it: not undone\n", case.call.name());
+                self.differ(lent(&case), || text);
+            }
         }
     }
 
@@ -325,12 +370,10 @@ impl Tally {
     }
 
     /// The calls on the large maps, which are not counted as generated ones.
-    fn compare_large(&mut self, trace: bool) {
+    fn compare_large(&mut self) {
         for (of, cases) in large::maps() {
             for (case, step) in cases.iter().zip(0..) {
-                if trace {
-                    eprintln!("{of}, call {step} of it: {}", case.call.name());
-                }
+                self.trace(&of, step, case);
                 self.compare_geometry(&of, step, &case.map);
                 self.compare(&of, step, case, &case.run());
             }
@@ -376,6 +419,11 @@ impl Tally {
             self.touching, self.touching_across_zones
         );
         self.claims.print();
+        self.pieces.print();
+        println!(
+            "{} accepted claims released, and their lists placed",
+            self.undone
+        );
         self.copies.print();
     }
 
@@ -402,6 +450,7 @@ impl Tally {
         }
         lines.extend(self.never_counted());
         lines.extend(self.claims.complaints());
+        lines.extend(self.pieces.complaints());
         lines.extend(self.copies.complaints(&self.compared));
         lines
     }
@@ -452,16 +501,13 @@ fn compare(seeds: std::ops::Range<u64>, program: &mut Option<Program>) -> Tally 
         list: 200_000,
         image: 65_536,
     };
-    let trace = env::var_os("TRACE").is_some();
-    let mut tally = Tally::new();
-    tally.compare_large(trace);
+    let mut tally = Tally::new(env::var_os("TRACE").is_some());
+    tally.compare_large();
     for seed in seeds {
         let of = format!("seed {seed}");
         let mut step = 0;
         let mut visit = |case: &Case, ours: &Outcome| {
-            if trace {
-                eprintln!("{of}, call {step} of it: {}", case.call.name());
-            }
+            tally.trace(&of, step, case);
             if let (Some(program), 0, 0) = (program.as_mut(), step, seed % LISTED) {
                 let name = format!("the first map of {of}");
                 let told = program.compare(&name, &case.map);
@@ -471,13 +517,16 @@ fn compare(seeds: std::ops::Range<u64>, program: &mut Option<Program>) -> Tally 
                 tally.count(&case.map, &told);
             }
             tally.compare(&of, step, case, ours);
+            tally.compare_undone(&of, step, case, ours);
             tally.claims.count(case, ours);
+            tally.pieces.count(case, ours);
             tally.copies.count(case, ours);
             step += 1;
         };
         play(seed, &sizes, &mut visit);
         play_addresses(seed, &sizes, &mut visit);
         play_claims(seed, &sizes, &mut visit);
+        play_pieces(seed, &sizes, &mut visit);
         play_copies(seed, &sizes, &mut visit);
     }
     tally

@@ -8,13 +8,12 @@ mod opened;
 use declared::*;
 use reference::case::{Call, Case};
 
-/// The refusal's number and zone, and up to three values; 0 where the call
-/// has fewer.
+/// The refusal's number and zone, and up to two values; 0 where the call has fewer.
 #[derive(Clone, Copy, Debug, PartialEq, Eq)]
 pub struct Answer {
     pub number: u32,
     pub zone: u32,
-    pub values: [u64; 3],
+    pub values: [u64; 2],
 }
 
 /// What every number lent holds before a call, which must write them all.
@@ -53,8 +52,9 @@ pub struct Calls {
         u64,
         u32,
         *mut u32,
+        usize,
         *mut u32,
-        *mut u32,
+        *mut u64,
         *mut u32,
     ) -> u32,
 }
@@ -83,9 +83,8 @@ impl Calls {
         let (wide, fill, id) = (case.wide, case.fill, case.number);
         let parent = case.number;
         let (mut zone, mut value, mut run) = (UNWRITTEN as u32, UNWRITTEN, UNWRITTEN);
-        let (mut new, mut start, mut length) = (zone, zone, zone);
-        let (z, v) = (&mut zone, &mut value);
-        let (n, s, l) = (&mut new, &mut start, &mut length);
+        let mut new = zone;
+        let (z, v, n) = (&mut zone, &mut value, &mut new);
         // SAFETY: the functions have these types; each pointer and length are a
         // slice's borrowed by this function alone, or point to a local number.
         let number = unsafe {
@@ -102,26 +101,26 @@ impl Calls {
                 }
                 Call::Release => (self.release)(map, map_len, id, list, list_len, v, z),
                 Call::Place => (self.place)(map, map_len, id, list, list_len, z),
-                Call::Claim => (self.claim)(map, map_len, wide, parent, n, s, l, z),
+                Call::Claim => (self.claim)(map, map_len, wide, parent, list, list_len, n, v, z),
                 _ => unreachable!("it is made on two copies"),
             }
         };
         Answer {
             number,
             zone,
-            values: values(case.call, [value, run], [new, start, length]),
+            values: values(case.call, value, run, new),
         }
     }
 }
 
 /// The values of a call on one map, of the numbers lent for them. Inlined too.
 #[inline(always)]
-fn values(call: Call, [value, run]: [u64; 2], claimed: [u32; 3]) -> [u64; 3] {
-    match call.values() {
-        0 => [0; 3],
-        1 => [value, 0, 0],
-        2 => [value, run, 0],
-        _ => claimed.map(u64::from),
+fn values(call: Call, value: u64, run: u64, new: u32) -> [u64; 2] {
+    match call {
+        Call::Claim => [new as u64, value],
+        Call::Address => [value, run],
+        _ if call.values() == 0 => [0; 2],
+        _ => [value, 0],
     }
 }
 
@@ -155,9 +154,9 @@ fn call_on_copies(call: Call, one: &mut [u8], other: &mut [u8]) -> Answer {
         }
     };
     let values = match call {
-        Call::ChooseCopy => [which, equal, 0].map(u64::from),
-        Call::CopyOver => [0; 3],
-        _ => [first, second, 0],
+        Call::ChooseCopy => [which, equal].map(u64::from),
+        Call::CopyOver => [0; 2],
+        _ => [first, second],
     };
     Answer {
         number,

@@ -67,16 +67,17 @@ unsafe extern "C" fn no_address(
 }
 
 /// In place of the library's own claim, which nobody calls, as `bench` does not time
-/// it: in a version from before R-6 of document 02 it has no parent zone, and another
-/// signature.
+/// it: in a version from before R-6 of document 02 it has no parent zone, in one from
+/// before R-8 no list, and in both another signature.
 unsafe extern "C" fn no_claim(
     _map: *mut u8,
     _map_len: usize,
     _size: u64,
     _parent: u32,
+    _list: *mut u32,
+    _list_len: usize,
     _id: *mut u32,
-    _start: *mut u32,
-    _length: *mut u32,
+    _pairs: *mut u64,
     _zone: *mut u32,
 ) -> u32 {
     unreachable!("the claim of an opened library is not called")

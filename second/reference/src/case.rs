@@ -58,8 +58,8 @@ impl Call {
         }
     }
 
-    /// The refusals that document 01's table allows the call, 14 left out, and for the
-    /// last three R-5 of document 02.
+    /// The refusals that document 01's table allows the call, 14 left out, for claim
+    /// R-8 of document 02, and for the last three R-5.
     pub fn refusals(self) -> Vec<u32> {
         let mut numbers: Vec<u32> = (1..=7).collect();
         numbers.extend_from_slice(match self {
@@ -71,7 +71,7 @@ impl Call {
             Call::SweepFree => &[16],
             Call::Release => &[8, 9, 10, 17],
             Call::Place => &[8, 9, 11, 12, 13],
-            Call::Claim => &[9, 12, 15],
+            Call::Claim => &[9, 12, 15, 17],
             Call::ChooseCopy | Call::CopyOver | Call::CopyAddresses => &[],
         });
         numbers
@@ -81,8 +81,7 @@ impl Call {
     pub fn values(self) -> usize {
         match self {
             Call::Check | Call::Place | Call::CopyOver => 0,
-            Call::Address | Call::ChooseCopy | Call::CopyAddresses => 2,
-            Call::Claim => 3,
+            Call::Address | Call::Claim | Call::ChooseCopy | Call::CopyAddresses => 2,
             _ => 1,
         }
     }
@@ -97,7 +96,7 @@ impl Call {
     }
 
     pub fn writes_list(self) -> bool {
-        matches!(self, Call::List | Call::Free | Call::Release)
+        matches!(self, Call::List | Call::Free | Call::Release | Call::Claim)
     }
 
     pub fn writes_map(self) -> bool {
@@ -125,6 +124,7 @@ pub struct Case {
     pub wide: u64,
     /// The map. Of two copies the first, or the source.
     pub map: Vec<u8>,
+    /// The room lent for pairs, with its old contents, or the list handed in.
     pub list: Vec<u32>,
     /// The image. Of two copies the second, or the target.
     pub image: Vec<u8>,
@@ -200,8 +200,8 @@ impl Case {
             Call::SweepFree => one(read::sweep_free(map, image, wide, fill)),
             Call::Release => one(edit::release(map, id, list)),
             Call::Place => edit::place(map, id, list).map(|_| vec![]),
-            Call::Claim => edit::claim(map, wide, parent)
-                .map(|new| [new.id, new.start, new.length].map(u64::from).to_vec()),
+            Call::Claim => edit::claim(map, wide, parent, list)
+                .map(|claimed| vec![claimed.id as u64, claimed.pairs]),
             Call::ChooseCopy => unreachable!("it has a value where it is refused"),
             Call::CopyOver => copies::copy_over(map, image).map(|_| vec![]),
             Call::CopyAddresses => {

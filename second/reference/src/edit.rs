@@ -1,8 +1,9 @@
 //! The edits: release, place and claim (document 01, "The calls", and
-//! "Zone check and cross check" for the bytes they write; for claim R-6 of document
-//! 02 too).
+//! "Zone check and cross check" for the bytes they write; for claim R-6 and R-8 of
+//! document 02 too).
 
-use std::collections::BTreeSet;
+use std::cmp::Reverse;
+use std::collections::{BTreeMap, BTreeSet};
 
 use crate::geometry::Geometry;
 use crate::map::{
@@ -11,12 +12,11 @@ use crate::map::{
 use crate::read::{hand_out, present};
 use crate::Refusal;
 
-/// What an accepted claim answers.
+/// What an accepted claim answers: the id, and how many pairs were listed.
 #[derive(Clone, Copy, Debug, PartialEq, Eq)]
 pub struct Claimed {
     pub id: u32,
-    pub start: u32,
-    pub length: u32,
+    pub pairs: u64,
 }
 
 /// Removes all fragments of an object; answers how many pairs were listed.
@@ -49,9 +49,10 @@ pub fn place(map: &mut [u8], id: u32, list: &[u32]) -> Result<(), Refusal> {
     take(map, &checked, &pieces)
 }
 
-/// Gives room for a size in bytes, near a parent zone, to an unused id (R-6 of
-/// document 02).
-pub fn claim(map: &mut [u8], size: u64, parent: u32) -> Result<Claimed, Refusal> {
+/// Gives room for a size in bytes to an unused id: in one piece near a parent zone (R-6
+/// of document 02), or else in several (R-8). "The answer becomes a list in object
+/// order for the chosen id, so 17 may be given."
+pub fn claim(map: &mut [u8], size: u64, parent: u32, list: &mut [u32]) -> Result<Claimed, Refusal> {
     let checked = check(map)?;
     no_free_touch(&checked)?;
     let geometry = &checked.geometry;
@@ -63,26 +64,14 @@ pub fn claim(map: &mut [u8], size: u64, parent: u32) -> Result<Claimed, Refusal>
     let lowest = lowest_unused_id(geometry, &used).ok_or(Refusal::plain(14))?;
 
     let need = need(geometry, size);
-    let hole = hole_near(&checked, need, parent as usize).ok_or(Refusal::plain(15))?;
-    // No longer than the hole, so it fits.
-    let need = need as usize;
-    let remaining = hole.length - need;
-    let length = if remaining >= 1 && remaining < geometry.shortest_fragment {
-        hole.length
-    } else {
-        need
-    };
-    // "and only if none is left the lowest unused from 3".
-    let id = lowest_unused_id_of(geometry, &used, hole.zone).unwrap_or(lowest);
-    let piece = Fragment {
-        zone: hole.zone,
-        start: hole.start,
-        length,
-        owner: Owner::Object(id),
-    };
-    take(map, &checked, &[piece])?;
-    let (start, length) = checked.pair(&piece);
-    Ok(Claimed { id, start, length })
+    let taken = pieces_taken(&checked, need, parent as usize).ok_or(Refusal::plain(15))?;
+    // "The id's zone for R-6 is that of the first hole taken", and "only if none is
+    // left the lowest unused from 3".
+    let id = lowest_unused_id_of(geometry, &used, taken[0].zone).unwrap_or(lowest);
+    let pieces = in_object_order(geometry, id, &taken)?;
+    let pairs = hand_out(&checked, &pieces, list)?;
+    take(map, &checked, &pieces).expect("free bits, and no short leftover");
+    Ok(Claimed { id, pairs })
 }
 
 /// The size of a claim rounded up to clusters, in map bits, and at least m.
@@ -91,6 +80,81 @@ pub fn need(geometry: &Geometry, size: u64) -> u128 {
     let clusters = (size as u128 + cluster_bytes - 1) / cluster_bytes;
     let rounded = clusters * geometry.cluster_bits as u128;
     rounded.max(geometry.shortest_fragment as u128)
+}
+
+/// What a claim takes of the holes, in the order in which it takes them: of one hole
+/// that is long enough, or else of several (R-8 of document 02). "Refusal 15 is then
+/// given exactly if all free bits together are fewer than need": nothing.
+pub fn pieces_taken(checked: &CheckedMap, need: u128, parent: usize) -> Option<Vec<Fragment>> {
+    let geometry = &checked.geometry;
+    if let Some(hole) = hole_near(checked, need, parent) {
+        return Some(vec![start_of(geometry, &hole, need as usize)]);
+    }
+    let holes = largest_first(checked);
+    let free_bits: usize = holes.iter().map(|hole| hole.length).sum();
+    if (free_bits as u128) < need {
+        return None;
+    }
+    Some(starts_of(geometry, &holes, need as usize))
+}
+
+/// "holes largest first, the lower disc bit first among equals".
+fn largest_first(checked: &CheckedMap) -> Vec<Fragment> {
+    let mut holes = checked.free();
+    let disc_bit = |hole: &Fragment| checked.geometry.disc_bit(hole.zone, hole.start);
+    holes.sort_by_key(|hole| (Reverse(hole.length), disc_bit(hole)));
+    holes
+}
+
+/// Takes holes in turn: "whole while it's no longer than what remains, then from the
+/// start of the last one what remains (at least m)".
+fn starts_of(geometry: &Geometry, holes: &[Fragment], need: usize) -> Vec<Fragment> {
+    let mut taken = Vec::new();
+    let mut remains = need;
+    for hole in holes {
+        // The one before was as long as what remained, and so the last.
+        if remains == 0 {
+            break;
+        }
+        if hole.length <= remains {
+            taken.push(*hole);
+            remains -= hole.length;
+        } else {
+            let length = remains.max(geometry.shortest_fragment);
+            taken.push(start_of(geometry, hole, length));
+            break;
+        }
+    }
+    taken
+}
+
+/// So many bits from a hole's start, "or all of it if a leftover of 1 to m-1 bits would
+/// result". The hole has that many.
+fn start_of(geometry: &Geometry, hole: &Fragment, length: usize) -> Fragment {
+    let leftover = hole.length - length;
+    if leftover >= 1 && leftover < geometry.shortest_fragment {
+        return *hole;
+    }
+    Fragment { length, ..*hole }
+}
+
+/// Pieces as those of an id, in its object order.
+fn in_object_order(
+    geometry: &Geometry,
+    id: u32,
+    pieces: &[Fragment],
+) -> Result<Vec<Fragment>, Refusal> {
+    let mut in_zone = by_zone(pieces);
+    let mut ordered = Vec::new();
+    for zone in geometry.zones_in_object_order(id)? {
+        let mut here = in_zone.remove(&zone).unwrap_or_default();
+        here.sort_by_key(|piece| piece.start);
+        ordered.extend(here);
+    }
+    for piece in &mut ordered {
+        piece.owner = Owner::Object(id);
+    }
+    Ok(ordered)
 }
 
 /// The first hole of length at least need: zones in the order that a parent zone
@@ -124,7 +188,8 @@ fn lowest_unused_id(geometry: &Geometry, used: &BTreeSet<u32>) -> Option<u32> {
 }
 
 /// "the lowest unused one from 3 whose start zone is the chosen zone" (R-6 of
-/// document 02), which is that of the hole; none where all of them are used.
+/// document 02), which is that of the first hole taken; none where all of them are
+/// used.
 fn lowest_unused_id_of(geometry: &Geometry, used: &BTreeSet<u32>, zone: usize) -> Option<u32> {
     (3..geometry.ids() as u32)
         .filter(|id| geometry.start_zone(*id) == Ok(zone))
@@ -196,15 +261,15 @@ fn read_pieces(geometry: &Geometry, id: u32, list: &[u32]) -> Result<Vec<Fragmen
 /// Takes the pieces out of the free bits (refusal 13) and writes them.
 fn take(map: &mut [u8], checked: &CheckedMap, pieces: &[Fragment]) -> Result<(), Refusal> {
     let geometry = &checked.geometry;
-    let touched = zones_touched(pieces);
-    for zone in &touched {
+    let in_zone = by_zone(pieces);
+    for (zone, pieces) in &in_zone {
         let mut is_free = vec![false; geometry.end_block_bit()];
         for fragment in &checked.zones[*zone] {
             if fragment.owner == Owner::Free {
                 is_free[fragment.start..fragment.end()].fill(true);
             }
         }
-        for piece in pieces.iter().filter(|piece| piece.zone == *zone) {
+        for piece in pieces {
             for block_bit in piece.start..piece.end() {
                 if !is_free[block_bit] {
                     return Err(Refusal::plain(13));
@@ -220,22 +285,28 @@ fn take(map: &mut [u8], checked: &CheckedMap, pieces: &[Fragment]) -> Result<(),
         }
     }
 
-    for zone in &touched {
+    for (zone, pieces) in &in_zone {
         let mut owned = owned_fragments(&checked.zones[*zone]);
-        owned.extend(pieces.iter().filter(|piece| piece.zone == *zone));
+        owned.extend(pieces);
         owned.sort_by_key(|fragment| fragment.start);
         rewrite_zone(map, geometry, *zone, &owned);
     }
-    finish(map, geometry, &touched);
+    finish(map, geometry, &zones_touched(pieces));
     Ok(())
+}
+
+/// The pieces of each zone in which there are some.
+fn by_zone(pieces: &[Fragment]) -> BTreeMap<usize, Vec<Fragment>> {
+    let mut in_zone: BTreeMap<usize, Vec<Fragment>> = BTreeMap::new();
+    for piece in pieces {
+        in_zone.entry(piece.zone).or_default().push(*piece);
+    }
+    in_zone
 }
 
 /// An edit touches the zones in which its pairs lie; ascending.
 fn zones_touched(pieces: &[Fragment]) -> Vec<usize> {
-    let mut zones: Vec<usize> = pieces.iter().map(|piece| piece.zone).collect();
-    zones.sort();
-    zones.dedup();
-    zones
+    by_zone(pieces).into_keys().collect()
 }
 
 /// The fragments of a zone that are not free.

@@ -1,10 +1,11 @@
 //! A deterministic generator: maps over all geometries of document 01, damage
-//! to them, arguments for each call, runs of calls, claims on crowded maps, and pairs
-//! of copies. A seed decides all.
+//! to them, arguments for each call, runs of calls, claims on crowded maps, in one piece
+//! and in several, and pairs of copies. A seed decides all.
 
 use std::ops::Range;
 
 use crate::case::{Call, Case, Outcome, CALLS_ON_ONE_MAP};
+use crate::edit::{need, pieces_taken};
 use crate::geometry::{
     DiscRecord, Edition, Geometry, MOST_ZONES, NZONES_HIGH, RESERVED, SIZE_HIGH, VERSION,
     ZONE_0_SHORTFALL,
@@ -1135,6 +1136,47 @@ fn some_size(rng: &mut Rng, checked: &CheckedMap) -> u64 {
     }
 }
 
+/// A size for a claim in several pieces (R-8 of document 02): around what some of the
+/// largest holes have together, around one with which the last of them is cut, around
+/// all free bits, or any above the largest hole. Nothing where there are not two holes.
+fn some_split_size(rng: &mut Rng, checked: &CheckedMap) -> Option<u64> {
+    let geometry = &checked.geometry;
+    let (k, m) = (geometry.cluster_bits, geometry.shortest_fragment);
+    let mut lengths: Vec<usize> = checked.free().iter().map(|hole| hole.length).collect();
+    lengths.sort_by(|one, other| other.cmp(one));
+    if lengths.len() < 2 {
+        return None;
+    }
+    let whole = rng.between(1, lengths.len() - 1);
+    let together: usize = lengths[..whole].iter().sum();
+    let last = lengths[whole];
+    let all: usize = lengths.iter().sum();
+    let below_m = k * rng.between(1, m / k);
+    let bits = match rng.below(10) {
+        0 => together,
+        1 | 2 => together + below_m,
+        3 | 4 => together + last - below_m.min(last),
+        5 => together + last - m,
+        6 => all,
+        7 => all + rng.pick(&[0, k, m]),
+        _ => rng.between(lengths[0] + 1, all),
+    };
+    // Mostly no whole clusters, and so rounded up to them.
+    let less = rng.below(k * geometry.bytes_per_map_bit as usize) as u64;
+    let bytes = bits as u64 * geometry.bytes_per_map_bit;
+    Some(rng.pick(&[bytes, bytes + 1, bytes - less, bytes - less]))
+}
+
+/// Room around what a claim takes.
+fn room_for_claim(rng: &mut Rng, checked: &CheckedMap, case: &Case, largest: usize) -> Vec<u32> {
+    let parent = case.number as usize;
+    let mut pieces = None;
+    if parent < checked.geometry.nzones {
+        pieces = pieces_taken(checked, need(&checked.geometry, case.wide), parent);
+    }
+    room_for(rng, pieces.map_or(0, |pieces| pieces.len()), largest)
+}
+
 /// A parent zone for a claim (R-6 of document 02): mostly one of the disc, and of
 /// these 0, the last, the middle or any; else one past the disc, or one of which only
 /// the low bits are on it.
@@ -1167,7 +1209,11 @@ pub fn arguments(rng: &mut Rng, call: Call, map: &[u8], sizes: &Sizes, memory: &
             if call.writes_image() {
                 case.image = (0..rng.below(100)).map(|_| rng.byte()).collect();
             }
-            if call.writes_list() {
+            if call == Call::Claim {
+                let mut aside = rng.aside();
+                let entries = aside.below(5);
+                case.list = room(&mut aside, entries);
+            } else if call.writes_list() {
                 let entries = rng.below(60);
                 case.list = room(rng, entries);
             }
@@ -1245,10 +1291,15 @@ pub fn arguments(rng: &mut Rng, call: Call, map: &[u8], sizes: &Sizes, memory: &
             case.list.truncate(sizes.list);
         }
         Call::Claim => {
-            // The sizes, and all that comes after them, do not depend on it.
+            // The sizes for one hole, and all that comes after them, do not depend on
+            // it.
             let mut aside = rng.aside();
             case.wide = some_size(rng, &checked);
             case.number = some_parent(&mut aside, &checked.geometry);
+            if aside.percent(30) {
+                case.wide = some_split_size(&mut aside, &checked).unwrap_or(case.wide);
+            }
+            case.list = room_for_claim(&mut aside, &checked, &case, sizes.list);
         }
         Call::ChooseCopy | Call::CopyOver | Call::CopyAddresses => {
             unreachable!("copies are made in pairs")
@@ -1426,7 +1477,7 @@ pub fn play_claims(seed: u64, sizes: &Sizes, visit: &mut dyn FnMut(&Case, &Outco
     // Not the map that `play` makes.
     let mut rng = Rng::new(Rng::new(seed).word());
     let rng = &mut rng;
-    let record = record_of_several_zones(rng);
+    let record = record_of_several_zones(rng, 2);
     let mut map = crowded_map(rng, &record);
     for _ in 0..rng.between(2, 6) {
         let call = rng.pick(&[Call::Claim, Call::Claim, Call::Claim, Call::Release]);
@@ -1437,9 +1488,40 @@ pub fn play_claims(seed: u64, sizes: &Sizes, visit: &mut dyn FnMut(&Case, &Outco
     }
 }
 
-/// A disc record of several zones, mostly short ones of few ids. The disc ends where
-/// the map does.
-fn record_of_several_zones(rng: &mut Rng) -> DiscRecord {
+/// Plays claims of one seed that no hole is long enough for, or nearly, beside those of
+/// `play`, on the map as the one before left it, with a release now and then (R-8 of
+/// document 02). The map has holes of a few lengths, so that some are equal.
+pub fn play_pieces(seed: u64, sizes: &Sizes, visit: &mut dyn FnMut(&Case, &Outcome)) {
+    // Neither the map that `play` makes nor that of `play_claims`.
+    let mut rng = Rng::new(Rng::new(!seed).word());
+    let rng = &mut rng;
+    let record = record_of_several_zones(rng, 1);
+    let mut map = holed_map(rng, &record);
+    for _ in 0..rng.between(2, 5) {
+        let case = match rng.below(4) {
+            0 => arguments(rng, Call::Release, &map, sizes, &Memory::new()),
+            _ => split_claim(rng, &map, sizes),
+        };
+        let outcome = case.run();
+        visit(&case, &outcome);
+        map = outcome.map;
+    }
+}
+
+/// A claim in several pieces, or around that.
+fn split_claim(rng: &mut Rng, map: &[u8], sizes: &Sizes) -> Case {
+    let checked = check(map).expect("a valid map");
+    let mut case = arguments(rng, Call::Claim, map, sizes, &Memory::new());
+    // Not past the disc, which is for other claims.
+    case.number %= checked.geometry.nzones as u32;
+    case.wide = some_split_size(rng, &checked).unwrap_or(case.wide);
+    case.list = room_for_claim(rng, &checked, &case, sizes.list);
+    case
+}
+
+/// A disc record of several zones, or of so few, mostly short ones of few ids. The disc
+/// ends where the map does.
+fn record_of_several_zones(rng: &mut Rng, fewest: usize) -> DiscRecord {
     let edition = rng.pick(&[Edition::E, Edition::E, Edition::EPlus]);
     let log2secsize = rng.pick(&[8usize, 8, 8, 8, 8, 8, 8, 8, 9, 10]);
     let idlen = rng.between(log2secsize + 3, edition.longest_id() as usize);
@@ -1453,7 +1535,7 @@ fn record_of_several_zones(rng: &mut Rng) -> DiscRecord {
     };
     let nzones = match rng.below(20) {
         0 => rng.between(10, 40),
-        _ => rng.between(2, 9),
+        _ => rng.between(fewest, 9),
     };
     let nzones = nzones.min((1 << idlen) / (zone_bits / (idlen + 1)));
     DiscRecord {
@@ -1468,16 +1550,38 @@ fn record_of_several_zones(rng: &mut Rng) -> DiscRecord {
     }
 }
 
-/// A map of short fragments. The ids of one zone are used, all of them or all but a
-/// few, wherever their fragments lie; the others go up from 3, or are any. Some zones
-/// have holes, of up to four fragments, others none.
+/// A map of short fragments. Some zones have holes, of up to four fragments, others
+/// none.
 fn crowded_map(rng: &mut Rng, record: &DiscRecord) -> Vec<u8> {
     let geometry = Geometry::accept(record).expect("a record inside its ranges");
-    let ids = geometry.ids() as u32;
     let mut zones: Vec<_> = (0..geometry.nzones)
         .map(|zone| crowded_zone(rng, &geometry, zone))
         .collect();
+    number_objects(rng, &geometry, &mut zones);
+    build(record, &zones)
+}
 
+/// A map of short fragments and of holes of a few lengths.
+fn holed_map(rng: &mut Rng, record: &DiscRecord) -> Vec<u8> {
+    let geometry = Geometry::accept(record).expect("a record inside its ranges");
+    let (k, m) = (geometry.cluster_bits, geometry.shortest_fragment);
+    let mut lengths = vec![m + k * rng.below(3 * m / k)];
+    for _ in 0..rng.below(5) {
+        let any = m + k * rng.below(6 * m / k);
+        lengths.push(rng.pick(&[m, 2 * m - k, 2 * m, 2 * m + k, any, any]));
+    }
+    let mut zones: Vec<_> = (0..geometry.nzones)
+        .map(|zone| holed_zone(rng, &geometry, zone, &lengths))
+        .collect();
+    number_objects(rng, &geometry, &mut zones);
+    build(record, &zones)
+}
+
+/// Gives the owned fragments of crowded zones their ids. Those of one zone are used, all
+/// of them or all but a few, wherever their fragments lie; the others go up from 3, or
+/// are any.
+fn number_objects(rng: &mut Rng, geometry: &Geometry, zones: &mut [Vec<(Owner, usize)>]) {
+    let ids = geometry.ids() as u32;
     // The owned fragments, in any order.
     let mut owned: Vec<&mut u32> = Vec::new();
     for (owner, _) in zones.iter_mut().flatten() {
@@ -1512,7 +1616,6 @@ fn crowded_map(rng: &mut Rng, record: &DiscRecord) -> Vec<u8> {
             }
         });
     }
-    build(record, &zones)
 }
 
 /// Owners and lengths of a crowded zone, with no ids as yet but for object 2.
@@ -1533,6 +1636,39 @@ fn crowded_zone(rng: &mut Rng, geometry: &Geometry, zone: usize) -> Vec<(Owner, 
             _ if hole => parts.push((Owner::Free, length)),
             _ => parts.push((Owner::Object(3), length)),
         }
+    }
+    parts
+}
+
+/// Owners and lengths of a zone with holes of some lengths, with no ids as yet but for
+/// object 2. No two holes touch.
+fn holed_zone(
+    rng: &mut Rng,
+    geometry: &Geometry,
+    zone: usize,
+    lengths: &[usize],
+) -> Vec<(Owner, usize)> {
+    let m = geometry.shortest_fragment;
+    let free_percent = rng.pick(&[0, 5, 20, 50, 100]);
+    let mut parts: Vec<(Owner, usize)> = Vec::new();
+    let mut left = geometry.end_block_bit() - geometry.first_block_bit(zone);
+    while left > 0 {
+        let hole = rng.percent(free_percent);
+        let owner = match parts.last() {
+            None if zone == geometry.middle_zone() => Owner::Object(2),
+            Some((Owner::Free, _)) => Owner::Object(3),
+            _ if hole => Owner::Free,
+            _ => Owner::Object(3),
+        };
+        let mut length = match owner {
+            Owner::Free => rng.pick(lengths),
+            Owner::Object(_) => m,
+        };
+        if length > left || left - length < m {
+            length = left;
+        }
+        parts.push((owner, length));
+        left -= length;
     }
     parts
 }

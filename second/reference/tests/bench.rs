@@ -79,14 +79,12 @@ fn a_place_5() {
 /// 'The claim examples read "parent zone 0"' (R-6 of document 02).
 #[test]
 fn a_claim() {
-    let claimed = |size: u64| claim(&mut map_a(), size, 0);
-    let given = |start: u32, length: u32| {
-        Ok(Claimed {
-            id: 3,
-            start,
-            length,
-        })
+    let claimed = |size: u64| {
+        let mut entries = [7; 3];
+        let answer = claim(&mut map_a(), size, 0, &mut entries);
+        answer.map(|claimed| (claimed, entries))
     };
+    let given = |start: u32, length: u32| Ok((Claimed { id: 3, pairs: 1 }, [start, length, 7]));
     assert_eq!(claimed(1), given(12, 12));
     assert_eq!(claimed(1_548_288), given(12, 1512));
     assert_eq!(claimed(1_548_289), given(12, 1524));
@@ -95,8 +93,10 @@ fn a_claim() {
     assert_eq!(claimed(0), Err(PLAIN(12)));
     assert_eq!(claimed(u64::MAX), Err(PLAIN(15)));
     for parent in [1, 256, u32::MAX] {
-        assert_eq!(claim(&mut map_a(), 1, parent), Err(PLAIN(12)));
+        assert_eq!(claim(&mut map_a(), 1, parent, &mut [0; 2]), Err(PLAIN(12)));
     }
+    // "so 17 may be given" (R-8 of document 02).
+    assert_eq!(claim(&mut map_a(), 1, 0, &mut [0]), Err(PLAIN(17)));
 }
 
 /// "the address examples gain this number: for map B, 0x000503 at 0 has 19,968" (R-11

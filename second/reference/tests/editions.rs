@@ -290,7 +290,7 @@ fn undo_on_1000_zones() {
     assert_eq!(crosses[998..], [1, 0]);
     // The first id of the parent zone (R-6 of document 02), which has a hole.
     for (parent, id) in [(0, 3), (256, 25_600), (999, 99_900)] {
-        let claimed = claim(&mut map, 1, parent).unwrap();
+        let claimed = claim(&mut map, 1, parent, &mut entries).unwrap();
         assert_eq!(claimed.id, id);
     }
     for id in [99_900, 25_600, 3] {

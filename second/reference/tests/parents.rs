@@ -1,5 +1,6 @@
 //! R-6 of document 02: the order of zones, and each claim of the generator held against
-//! the request's words, read in another way than the library has them.
+//! the request's words, read in another way than the library has them. What no hole is
+//! long enough for is in `pieces`.
 
 use std::collections::BTreeMap;
 
@@ -92,14 +93,20 @@ fn holds(case: &Case, outcome: &Outcome, seen: &mut BTreeMap<&'static str, u32>)
         return;
     }
     let Some(hole) = expected_hole(&checked, case.wide, parent) else {
-        assert_eq!((outcome.number, outcome.zone), (15, 0));
+        assert!(outcome.number != 0 || outcome.values[1] > 1);
         see("no hole");
         return;
     };
+    if case.list.len() < 2 {
+        assert_eq!((outcome.number, outcome.zone), (17, 0));
+        see("no room");
+        return;
+    }
     let id = expected_id(&checked, hole.zone);
     let (start, _) = checked.pair(&hole);
     assert_eq!(outcome.number, 0);
-    assert_eq!(outcome.values[..2], [id as u64, start as u64]);
+    assert_eq!(outcome.values, [id as u64, 1]);
+    assert_eq!(outcome.list[0], start);
     see(match hole.zone {
         zone if zone < parent => "below",
         zone if zone > parent => "above",
@@ -132,6 +139,7 @@ fn generated_claims() {
         "0 bytes",
         "no parent",
         "no hole",
+        "no room",
         "below",
         "above",
         "in the parent",
@@ -153,9 +161,9 @@ fn claim_then_release_restores_every_byte() {
             return;
         }
         let mut map = outcome.map.clone();
-        let mut entries = [0; 2];
+        let mut entries = vec![0; 2 * outcome.values[1] as usize];
         release(&mut map, outcome.values[0] as u32, &mut entries).unwrap();
-        assert_eq!(entries.map(u64::from), outcome.values[1..]);
+        assert_eq!(entries, outcome.list[..entries.len()]);
         assert!(map == case.map);
         claims += 1;
     };
@@ -176,7 +184,8 @@ fn no_hole_whatever_the_parent() {
         let map = valid_map(&mut rng, &record);
         let case = arguments(&mut rng, Call::Claim, &map, &SIZES, &Memory::new());
         let nzones = check(&map).unwrap().geometry.nzones as u32;
-        let answer = |parent| claim(&mut map.clone(), case.wide, parent).err();
+        let room = || vec![0; 20_000];
+        let answer = |parent| claim(&mut map.clone(), case.wide, parent, &mut room()).err();
         for parent in 1..nzones {
             assert_eq!(answer(parent), answer(0), "seed {seed}");
         }
@@ -188,7 +197,7 @@ fn no_hole_whatever_the_parent() {
 /// What is wrong with the map comes before a parent that is not there, 15 after it.
 #[test]
 fn no_such_parent() {
-    let told = |map: &[u8], size| claim(&mut map.to_vec(), size, 1).unwrap_err();
+    let told = |map: &[u8], size| claim(&mut map.to_vec(), size, 1, &mut []).unwrap_err();
     assert_eq!(told(&map_a()[..63], 1), Refusal::plain(1));
     assert_eq!(told(&with_bytes(&map_a(), 36, &[1]), 1), Refusal::plain(2));
     let mut map = map_a();

@@ -6,7 +6,7 @@ use reference::case::{Call, Case, Outcome, CALLS};
 use reference::edit::{claim, place, release};
 use reference::generate::{
     any_map, arguments, disc_record, map_a, map_b, objects, play, play_claims, play_copies,
-    valid_map, Memory, Rng, Sizes,
+    play_pieces, valid_map, Memory, Rng, Sizes,
 };
 use reference::geometry::{DiscRecord, Edition, Geometry, LARGEST_MAP};
 use reference::map::{check, zone_check_by_columns, zone_check_by_words};
@@ -165,8 +165,9 @@ fn place_or_claim_then_release_restores_every_byte() {
                     Err(_) => continue,
                 }
             } else {
-                match claim(&mut map, case.wide, case.number) {
-                    Ok(claimed) => (claimed.id, vec![claimed.start, claimed.length]),
+                let mut entries = vec![0; 200_000];
+                match claim(&mut map, case.wide, case.number, &mut entries) {
+                    Ok(claimed) => (claimed.id, entries[..2 * claimed.pairs as usize].to_vec()),
                     Err(_) => continue,
                 }
             };
@@ -235,6 +236,7 @@ fn refused_calls_change_nothing_and_every_refusal_is_reached() {
     for seed in 0..6_000 {
         play(seed, &SIZES, &mut see);
         play_claims(seed, &SIZES, &mut see);
+        play_pieces(seed, &SIZES, &mut see);
         play_copies(seed, &SIZES, &mut see);
     }
     for call in CALLS {
@@ -257,7 +259,7 @@ fn an_edit_writes_only_the_zones_it_touches() {
             let listed = match case.call {
                 Call::Release => outcome.list[..2 * outcome.values[0] as usize].to_vec(),
                 Call::Place => case.list.clone(),
-                _ => vec![outcome.values[1] as u32, outcome.values[2] as u32],
+                _ => outcome.list[..2 * outcome.values[1] as usize].to_vec(),
             };
             let mut touched: Vec<usize> = listed
                 .chunks(2)
@@ -394,11 +396,16 @@ fn stored_form_of_a_case() {
     case.wide = 19_968;
     assert_eq!(case.line(&case.run()), "address 16 0 0 0");
 
-    // The parent zone where other calls have their id (R-6 of document 02).
+    // The parent zone where other calls have their id (R-6 of document 02), and a list
+    // that is lent.
     let mut case = Case::new(Call::Claim, &map_a());
     case.wide = 1;
-    assert!(case.line(&case.run()).starts_with("claim 0 0 3 12 12 map "));
+    assert_eq!(case.line(&case.run()), "claim 17 0 0 0 list map");
+    case.list = vec![12, 0, 0];
+    let line = case.line(&case.run());
+    assert!(line.starts_with("claim 0 0 3 1 list 1=12 map 0="));
     case.number = 1;
     assert_eq!(case.bytes()[4..8], [1, 0, 0, 0]);
-    assert_eq!(case.line(&case.run()), "claim 12 0 0 0 0 map");
+    assert_eq!(case.bytes()[20..24], [3, 0, 0, 0]);
+    assert_eq!(case.line(&case.run()), "claim 12 0 0 0 list map");
 }

@@ -4,7 +4,7 @@
 use reference::case::{Call, Case, CALLS_ON_ONE_MAP};
 use reference::generate::{build, map_of_packed_ids, repair_zone_checks};
 use reference::geometry::{DiscRecord, Edition, Geometry};
-use reference::map::Owner;
+use reference::map::{check, Owner};
 
 /// The object that is listed, swept, released and placed.
 const OBJECT: u32 = 3;
@@ -124,14 +124,33 @@ fn zone(geometry: &Geometry, zone: usize, layout: Layout) -> Vec<(Owner, usize)>
 }
 
 /// Claims of a size (R-6 of document 02): near the first zone, the middle one and the
-/// last.
+/// last, with room for every hole there can be.
 fn claims(geometry: &Geometry, map: &[u8], size: u64) -> [Case; 3] {
     [0, geometry.middle_zone(), geometry.nzones - 1].map(|parent| {
         let mut case = Case::new(Call::Claim, map);
         case.number = parent as u32;
         case.wide = size;
+        case.list = vec![0; 2 * geometry.ids()];
         case
     })
+}
+
+/// Claims in the most pieces (R-8 of document 02): of all free bits, in as many as there
+/// are holes, and of all but a bit and of half of them, which end with a part of a hole or
+/// with one of many that are equal. None where there are not two holes.
+fn split_claims(geometry: &Geometry, map: &[u8]) -> Vec<Case> {
+    let free = check(map).expect("a valid map").free();
+    if free.len() < 2 {
+        return Vec::new();
+    }
+    let bits: usize = free.iter().map(|hole| hole.length).sum();
+    let bytes = |bits: usize| bits as u64 * geometry.bytes_per_map_bit;
+    let [all, cut, half] = [bits, bits - 1, bits / 2].map(|bits| {
+        let [claim, ..] = claims(geometry, map, bytes(bits));
+        claim
+    });
+    assert_eq!(all.run().values[1], free.len() as u64, "every hole");
+    vec![all, cut, half]
 }
 
 /// Every call of document 01 on one map; the place and some claims on what the release
@@ -158,8 +177,9 @@ fn calls(geometry: &Geometry, map: &[u8]) -> Vec<Case> {
         .map(|call| case(*call, map, 1))
         .collect();
     cases.extend(claims(geometry, map, 1));
-    // No hole is as long as the disc, so all are looked at.
+    // More than all free bits, so that every hole is looked at.
     cases.extend(claims(geometry, map, geometry.disc_size));
+    cases.extend(split_claims(geometry, map));
 
     let released = case(Call::Release, map, 0).run();
     assert_eq!(released.number, 0, "the object is released");
@@ -168,6 +188,7 @@ fn calls(geometry: &Geometry, map: &[u8]) -> Vec<Case> {
     assert_eq!(place.run().map, map, "and placed again");
     cases.push(place);
     cases.extend(claims(geometry, &released.map, 1));
+    cases.extend(split_claims(geometry, &released.map));
     cases
 }
 

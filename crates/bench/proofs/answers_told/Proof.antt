@@ -1,33 +1,35 @@
 -- Each promise says which definition its numbers and its bytes equal; a refusal or a value found decides what that comes to.
 use mathlib.Core.Path.{_≡_, refl, sym, ap, _∙_}
 use mathlib.Core.Bool.{Bool, cond}
-use mathlib.Core.List.{List}
-use Prim.Native.Nat.{ℕ, _*_}
-use lib.ListN.{length, take, drop}
-use lib.Seq.{take-at}
+use mathlib.Core.List.{List, _++_}
+use Prim.Native.Nat.{ℕ, _+_, _*_}
+use native.Mathlib.Omega.{arith}
+use lib.ListN.{length, take, drop, length-append}
+use lib.Seq.{take-at, drop-at}
 use Rattle.bits.proofs.Tests.{by-test}
 use Rattle.model.specs.Answer.{Answer, refused, answered}
 use Rattle.model.specs.Chain.{Pair, numbersOf}
 use Rattle.model.proofs.Lists.{length-numbers}
 use Rattle.model.proofs.LinesJudged.{table-answered}
 use Rattle.map.specs.Checked.{checkTold}
-use Rattle.listing.specs.Listed.{Lists, listTold, listAfter}
+use Rattle.listing.specs.Listed.{Lists, listNumbers, listTold, listAfter}
 use Rattle.listing.specs.declared.Listed.{Listed}
 use Rattle.address.specs.Address.{addressTold}
 use Rattle.sweep.specs.Sweep.{sweepTold, imageAfter}
-use Rattle.edits.specs.Edits.{takes, gives}
-use Rattle.edits.specs.Judge.{release, place}
-use Rattle.edits.specs.Steps.{outcome, bytesAfter, step}
+use Rattle.edits.specs.Edits.{Edit, takes, gives}
+use Rattle.edits.specs.Judge.{release, place, claim}
+use Rattle.edits.specs.Steps.{outcome, pairsTold, bytesAfter, step}
 use Rattle.edits.specs.Editable.{Editable}
-use Rattle.release.specs.Released.{Releases, pairsTaken}
+use Rattle.release.specs.Released.{Releases}
 use Rattle.place.specs.Placed.{Places, placeTold}
 use Rattle.place.specs.declared.Placed.{Placed}
-use Rattle.claim.specs.Claimed.{claimTold}
-use Rattle.runs.proofs.StepLaws.{release-place}
+use Rattle.claim.specs.Claimed.{Claims, claimTold}
+use Rattle.claim.specs.declared.Claimed.{Claimed}
+use Rattle.runs.proofs.StepLaws.{release-place, given-release}
 use Rattle.copies.specs.Copies.{Copy, first, second, copyFound, partOf, sameBytes, choiceTold, Chooses, copyTold, targetAfter, addressesTold}
 use Rattle.copies.proofs.SameBytes.{equal-exactly}
 use Rattle.copies.proofs.Over.{copy-by-table}
-use Rattle.bench.specs.Tells.{ListTells, ReleaseTells, ChoiceTells}
+use Rattle.bench.specs.Tells.{ListTells, ReleaseTells, ClaimTells, ChoiceTells}
 use Rattle.bench.proofs.answers_told.Statement.{statement}
 use Rattle.bench.proofs.answers_told.Tie as tie
 
@@ -39,10 +41,10 @@ listed found old r new p = record {
 
 released : (m : List ℕ) (id : ℕ) (old : List ℕ) (r : Listed) (after new : List ℕ) → Releases m id old r after new → ReleaseTells m id old r after new
 released m id old r after new p =
-    let l = listed (pairsTaken (outcome m (release id (length old)))) old r new (p .lists) in
+    let l = listed (pairsTold (outcome m (release id (length old)))) old r new (p .lists) in
     record {
-      refused-told = λ n z e. (let t = l .refused-told n z (ap pairsTaken e) in (t .0, t .1, p .bytes ∙ ap (bytesAfter m) e));
-      accepted-told = λ qs e. l .accepted-told qs (ap pairsTaken e);
+      refused-told = λ n z e. (let t = l .refused-told n z (ap pairsTold e) in (t .0, t .1, p .bytes ∙ ap (bytesAfter m) e));
+      accepted-told = λ qs e. l .accepted-told qs (ap pairsTold e);
     }
 
 placed-back : (m : List ℕ) → Editable m → (id : ℕ) (old : List ℕ) (r : Listed) (after new : List ℕ) → Releases m id old r after new
@@ -57,6 +59,27 @@ placed-back m ed id old r after new p qs e s end q =
     λ x l ex el. ((λ i. outcome (ex i) (place id (el i))) ∙ u .0, (λ i. step (ex i) (place id (el i))) ∙ u .1) in
     let t = same after (take (2 * length qs) new) (p .bytes) list in
     (t .0, q .bytes ∙ t .1)
+
+claimed : (m : List ℕ) (size parent : ℕ) (old : List ℕ) (r : Claimed) (after new : List ℕ) → Claims m size parent old r after new → ClaimTells m size parent old r after new
+claimed m size parent old r after new p = record {
+  refused-told = λ n z e. (p .numbers ∙ ap claimTold e, p .list ∙ ap (λ (x : Answer Edit). listAfter old (pairsTold x)) e, p .bytes ∙ ap (bytesAfter m) e);
+  accepted-told = λ id qs e. (p .numbers ∙ ap claimTold e, p .list ∙ ap (λ (x : Answer Edit). listAfter old (pairsTold x)) e);
+}
+
+released-back : (m : List ℕ) → Editable m → (size parent : ℕ) (old : List ℕ) (r : Claimed) (after new : List ℕ) → Claims m size parent old r after new
+    → (id : ℕ) (qs : List Pair) → outcome m (claim size parent (length old)) ≡ answered (gives id qs)
+    → (s : Listed) (end list : List ℕ) → Releases after id new s end list → (listNumbers s ≡ (0, 0, length qs)) × (list ≡ new) × (end ≡ m)
+released-back m ed size parent old r after new p id qs e s end list q =
+    let c = claim size parent (length old) in
+    let t = claimed m size parent old r after new p .accepted-told id qs e in
+    let size-is : length new ≡ 2 * length qs + length (drop (2 * length qs) old) = ap length (t .1) ∙ length-append (numbersOf qs) (drop (2 * length qs) old) ∙ ap (λ (n : ℕ). n + length (drop (2 * length qs) old)) (length-numbers qs) in
+    let u = given-release m ed c id (length new) qs e (omega (arith, size-is)) in
+    let same : (x : List ℕ) → x ≡ step m c → (outcome x (release id (length new)) ≡ answered (takes id qs)) × (step x (release id (length new)) ≡ m) =
+    λ x ex. ((λ i. outcome (ex i) (release id (length new))) ∙ u .0, (λ i. step (ex i) (release id (length new))) ∙ u .1) in
+    let v = same after (p .bytes) in
+    let l = released after id new s end list q .accepted-told qs (v .0) in
+    let k : drop (2 * length qs) new ≡ drop (2 * length qs) old = ap (drop (2 * length qs)) (t .1) ∙ drop-at (numbersOf qs) (drop (2 * length qs) old) (2 * length qs) (length-numbers qs) in
+    (l .0, l .1 ∙ ap (λ (x : List ℕ). numbersOf qs ++ x) k ∙ sym (t .1), q .bytes ∙ v .1)
 
 -- the equality is told by itself: told numbers differ in it alone
 chosen : (a b : List ℕ) (told : ℕ × ℕ × ℕ × ℕ) (handed : List ℕ) → Chooses a b told handed → ChoiceTells a b told handed
@@ -91,10 +114,7 @@ returns c = record {
     refused-told = λ n z e. (p .numbers ∙ ap placeTold e, p .bytes ∙ ap (bytesAfter m) e);
     accepted-told = λ k e. p .numbers ∙ ap placeTold e;
   };
-  claims = λ m size parent r after p. record {
-    refused-told = λ n z e. (p .numbers ∙ ap claimTold e, p .bytes ∙ ap (bytesAfter m) e);
-    accepted-told = λ id q e. p .numbers ∙ ap claimTold e;
-  };
+  claims = claimed;
   chooses = chosen;
   copies = λ source target r after p. record {
     refused-told = λ n z e. (p .numbers ∙ ap copyTold e, p .bytes ∙ ap (targetAfter target) e);
@@ -103,6 +123,7 @@ returns c = record {
   locates = λ m r p. record { refused-told = λ n z e. p .numbers ∙ ap addressesTold e; accepted-told = λ l e. p .numbers ∙ ap addressesTold e };
   returned-placed = λ m ed id old r after new p qs e s end q.
       (let t = placed-back m ed id old r after new p qs e s end q in (q .numbers ∙ ap placeTold (t .0), t .1));
+  claimed-released = released-back;
 }
 
 pub answers-told-spec : {M : Type 1} → statement M

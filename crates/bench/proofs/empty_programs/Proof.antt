@@ -8,13 +8,13 @@ use Rattle.checks.specs.Words.{zoneCheck, wordsOf, total}
 use Rattle.checks.specs.Maps.{mapA, mapB, mapD}
 use Rattle.geometry.specs.declared.Geometry.{Geometry}
 use Rattle.geometry.specs.declared.Refusal.{Refusal}
-use Rattle.geometry.specs.declared.DiscBit.{DiscBit}
 use Rattle.map.specs.declared.Checked.the-variants as check
 use Rattle.listing.specs.declared.Listed.the-variants as listed
 use Rattle.address.specs.declared.Location.{Location}
 use Rattle.address.specs.declared.Reached.the-variants as reached
 use Rattle.sweep.specs.declared.Swept.the-variants as swept
 use Rattle.place.specs.declared.Placed.the-variants as given
+use Rattle.claim.specs.Claimed.{claimNumbers}
 use Rattle.claim.specs.declared.Claimed.the-variants as taken
 use Rattle.copies.specs.declared.Copied.the-variants as copied
 use Rattle.copies.specs.declared.Addresses.{Addresses}
@@ -38,8 +38,8 @@ count-refused e = let z : _≡_ {A = ℕ} 0 1 = cc in omega arith
 done-refused : {r : Refusal} → given.Done ≡ given.Refused r → ⊥
 done-refused e = let z : _≡_ {A = ℕ} 0 1 = cc in omega arith
 
-piece-refused : {id : ℕ} {start : DiscBit} {len : ℕ} {r : Refusal} → taken.Piece id start len ≡ taken.Refused r → ⊥
-piece-refused e = let z : _≡_ {A = ℕ} 0 1 = cc in omega arith
+claimed-refused : {id n : ℕ} {r : Refusal} → taken.Pairs id n ≡ taken.Refused r → ⊥
+claimed-refused e = let z : _≡_ {A = ℕ} 0 1 = cc in omega arith
 
 copied-refused : {r : Refusal} → copied.Done ≡ copied.Refused r → ⊥
 copied-refused e = let z : _≡_ {A = ℕ} 0 1 = cc in omega arith
@@ -62,9 +62,12 @@ which n = n .2
 abbrev equal : ℕ × ℕ × ℕ × ℕ → ℕ
 equal n = n .3
 
--- the id that a claim tells
-abbrev new : ℕ × ℕ × ℕ × ℕ × ℕ → ℕ
+-- the id that a claim tells, and how many pairs
+abbrev new : ℕ × ℕ × ℕ × ℕ → ℕ
 new n = n .2
+
+abbrev many : ℕ × ℕ × ℕ × ℕ → ℕ
+many n = n .3
 
 -- the first byte of a copy
 abbrev byte : List ℕ → ℕ
@@ -116,11 +119,13 @@ returns c =
       };
       place-edits-nothing = λ h. let e : _≡_ {A = ℕ} 199 40 = ap (λ (l : List ℕ). getD l 0 0) (h mapA (5, 12 ∷ 20 ∷ []) .1 .bytes) in omega arith;
       claim = record {
-        refuses = λ h. piece-refused (sym (h mapA (20480, 0) .2 .answer));
-        one-answer = λ h. let k = h (20480, 0) .1 in piece-refused (sym (k mapA .1 .answer) ∙ k [] .1 .answer);
+        refuses = λ h. claimed-refused (sym (h mapA (20480, 0, lent) .2 .answer));
+        one-answer = λ h. let k = h (20480, 0, lent) .1 in claimed-refused (sym (k mapA .1 .answer) ∙ k [] .1 .answer);
       };
-      claim-edits-nothing = λ h. let e : _≡_ {A = ℕ} 199 8 = ap (λ (l : List ℕ). getD l 0 0) (h mapA (20480, 0) .1 .bytes) in omega arith;
-      claim-by-size = λ h. let k = h mapD 1 .2 in let e : _≡_ {A = ℕ} 3 168 = sym (ap new (k 0 .numbers)) ∙ ap new (k 1 .numbers) in omega arith;
+      claim-edits-nothing = λ h. let e : _≡_ {A = ℕ} 199 8 = ap (λ (l : List ℕ). getD l 0 0) (h mapA (20480, 0, lent) .1 .bytes) in omega arith;
+      claim-writes-nothing = λ h. let e : _≡_ {A = ℕ} 9 12 = ap (λ (l : List ℕ). getD l 0 0) (h mapA (20480, 0, lent) .1 .list) in omega arith;
+      claim-by-size = λ h. let k = h mapD 1 lent .2 in let e : _≡_ {A = ℕ} 3 168 = sym (ap new (k 0 .numbers)) ∙ ap new (k 1 .numbers) in omega arith;
+      claim-one-pair = λ h. let k = h mapD (2052097, 0, four) in let e : many (claimNumbers (k .0)) ≡ 2 = ap many (k .2 .numbers) in omega (arith, k .3);
       choose = record {
         refuses = λ h. let e : _≡_ {A = ℕ} 0 1 = ap which (h mapA [] .2 .numbers) in omega arith;
         one-answer = λ h. let k = h [] .1 in let e : _≡_ {A = ℕ} 1 0 = sym (ap which (k mapA .1 .numbers)) ∙ ap which (k [] .1 .numbers) in omega arith;

@@ -13,7 +13,7 @@ run-parts-requires : tie.Need-run-parts-requires
 run-parts-requires c κs =
     let d = c .before .before .before in (
       half 261120 _ (d .before .before .before .before .at-most .ensures),
-      half 1024 _ (d .before .before .at-most2 .ensures),
+      half 4096 _ (d .before .before .at-most2 .ensures),
       half 16384 _ (d .at-most3 .ensures),
     )
 

@@ -56,7 +56,7 @@ fn claims(cases: &mut Cases) {
         (1_548_289, 1_524),
         (1_560_576, 1_524),
     ] {
-        cases.claim(&a, size, 0).answers(&[3, 12, length]);
+        cases.claim(&a, size, 0).claims(3, &[12, length]);
     }
     cases.claim(&a, 1_560_577, 0).gives(15);
 }
@@ -106,9 +106,9 @@ fn object_690(cases: &mut Cases) {
     cases.list(&map, 2, 4).done();
     cases.free(&map, 24).done();
     cases.free(&map, 13).gives(17);
-    cases.claim(&map, 1, 0).answers(&[4, 62, 12]);
-    let in_zone_1 = [168, first(1) as u64, 1_363];
-    cases.claim(&map, 1_363 * 1_024, 0).answers(&in_zone_1);
+    cases.claim(&map, 1, 0).claims(4, &[62, 12]);
+    let in_zone_1 = [first(1), 1_363];
+    cases.claim(&map, 1_363 * 1_024, 0).claims(168, &in_zone_1);
     cases.release(&map, 7, 2).done();
     cases.release(&map, 3, 2).done();
 }
@@ -129,8 +129,10 @@ fn object_690_released(cases: &mut Cases) {
     rotated.rotate_left(4);
     cases.place(&released, 690, &rotated).gives(12);
     cases.place(&map, 690, &pairs).gives(11);
-    let in_zone_1 = [168, first(1) as u64, 2_000];
-    cases.claim(&released, 2_000 * 1_024, 0).answers(&in_zone_1);
+    let in_zone_1 = [first(1), 2_000];
+    cases
+        .claim(&released, 2_000 * 1_024, 0)
+        .claims(168, &in_zone_1);
 }
 
 /// "Zones 1,4 change by 1,1; zones 0,2,3,6,7 by 1,2,3,1,1": placed, released
@@ -180,7 +182,7 @@ fn floppy_edits(cases: &mut Cases) {
         (6_336 * 128, 6_336),
         (6_336 * 128 + 1, 6_352),
     ] {
-        cases.claim(&map, size, 0).answers(&[3, 48, length]);
+        cases.claim(&map, size, 0).claims(3, &[48, length]);
     }
     cases.claim(&map, 6_352 * 128 + 1, 0).gives(15);
     for (pair, number) in [

@@ -87,10 +87,19 @@ impl Cases {
         self.add(case)
     }
 
+    /// A claim with room for one pair and, where the size is odd, an entry more, which
+    /// is to stay as it is.
     pub fn claim(&mut self, map: &[u8], size: u64, parent: u32) -> Answer {
+        let spare = (size % 2) as usize;
+        self.claim_in(map, size, parent, 2 + spare)
+    }
+
+    /// A claim with room of so many entries (R-8 of document 02).
+    pub fn claim_in(&mut self, map: &[u8], size: u64, parent: u32, entries: usize) -> Answer {
         let mut case = Case::new(Call::Claim, map);
         case.wide = size;
         case.number = parent;
+        case.list = vec![OLD_ENTRY; entries];
         self.add(case)
     }
 
@@ -167,6 +176,18 @@ impl Answer {
         self.gives(0);
         assert_eq!(self.outcome.values, [pairs.len() as u64 / 2]);
         assert_eq!(&self.outcome.list[..pairs.len()], pairs);
+        self.outcome.map
+    }
+
+    /// A claim is accepted with this id and these pairs, and no entry past them is
+    /// written; answers the map as it was left.
+    #[track_caller]
+    pub fn claims(self, id: u32, pairs: &[u32]) -> Vec<u8> {
+        self.gives(0);
+        assert_eq!(self.outcome.values, [id as u64, pairs.len() as u64 / 2]);
+        let (listed, past) = self.outcome.list.split_at(pairs.len());
+        assert_eq!(listed, pairs);
+        assert!(past.iter().all(|entry| *entry == OLD_ENTRY));
         self.outcome.map
     }
 

@@ -1,6 +1,7 @@
 //! Document 01, "Claim": need, the hole, the id, refusals 12 and 15. 'The claim
 //! examples read "parent zone 0"' (R-6 of document 02), so zones are tried from 0 up
-//! here; other parents are in `parents`.
+//! here; other parents are in `parents`. What no hole is long enough for comes in
+//! several pieces, of which more is in `pieces`.
 
 use reference::generate::{build, map_a};
 use reference::geometry::DiscRecord;
@@ -56,7 +57,7 @@ fn need_in_map_bits(cases: &mut Cases) {
     };
     let map = build(&record, &[vec![object(2, 12), free(1_524)]]);
     for (size, length) in [(12 * 4_096, 12), (12 * 4_096 + 1, 13)] {
-        cases.claim(&map, size, 0).answers(&[3, 12, length]);
+        cases.claim(&map, size, 0).claims(3, &[12, length]);
     }
 }
 
@@ -72,14 +73,14 @@ fn need_in_clusters(cases: &mut Cases) {
         (&eight, 16 * 128 + 1, 24),
     ] {
         let start = if length < 20 { 14 } else { 16 };
-        cases.claim(map, size, 0).answers(&[3, start, length]);
+        cases.claim(map, size, 0).claims(3, &[start, length]);
     }
 }
 
 /// "the larger of m and the size", m being idlen+1 in whole clusters.
 fn need_of_m(cases: &mut Cases) {
     let map = build(&clusters_of_four(1), &[vec![object(2, 16), free(3_568)]]);
-    cases.claim(&map, 1, 0).answers(&[3, 16, 16]);
+    cases.claim(&map, 1, 0).claims(3, &[16, 16]);
 }
 
 /// "claim of 0 bytes", and sizes that are 0 or small modulo 2^32, or once
@@ -97,16 +98,15 @@ fn sizes_near_the_limits(cases: &mut Cases) {
 fn whole_hole(cases: &mut Cases) {
     let map = holes();
     for (bits, length) in [(88, 88), (89, 100)] {
-        let start = first(1) as u64 + 32;
-        let answer = [168, start, length];
-        cases.claim(&map, bits * 1_024, 0).answers(&answer);
+        let pair = [first(1) + 32, length];
+        cases.claim(&map, bits * 1_024, 0).claims(168, &pair);
     }
     let zone = vec![object(2, 14), free(28), object(5, 1_494)];
     let map = build(&clusters_of_two(1), &[zone]);
-    cases.claim(&map, 14 * 128, 0).answers(&[3, 14, 14]);
+    cases.claim(&map, 14 * 128, 0).claims(3, &[14, 14]);
     let zone = vec![object(2, 16), free(40), object(5, 7_624)];
     let map = build(&clusters_of_eight(1), &[zone]);
-    cases.claim(&map, 24 * 128 + 1, 0).answers(&[3, 16, 40]);
+    cases.claim(&map, 24 * 128 + 1, 0).claims(3, &[16, 40]);
 }
 
 /// "holes ascending: the first hole of length at least need", not the one that fits
@@ -115,7 +115,7 @@ fn first_hole_that_is_long_enough(cases: &mut Cases) {
     let map = holes();
     for (bits, start, length) in [(13, 52, 13), (24, 52, 30)] {
         let size = bits * 1_024 - 5;
-        cases.claim(&map, size, 0).answers(&[4, start, length]);
+        cases.claim(&map, size, 0).claims(4, &[start, length]);
     }
 }
 
@@ -128,25 +128,34 @@ fn hole_in_a_later_zone(cases: &mut Cases) {
         vec![object(1, 12), free(14), object(7, 1_990)],
     ];
     let map = build(&plain(3), &zones);
-    let start = first(2) as u64 + 12;
-    cases.claim(&map, 1, 0).answers(&[336, start, 14]);
+    let start = first(2) + 12;
+    cases.claim(&map, 1, 0).claims(336, &[start, 14]);
 }
 
 /// "the first hole of length at least need": a hole ends with its zone, so none has
-/// 2,017 bits.
+/// 2,017 bits, and of those in zones 2 and 1 something is taken. All have 5,556.
 fn all_free_but_object_2(cases: &mut Cases) {
     let map = three_free_zones();
     for (bits, id, start, length) in [(1_537, 168, 1_548, 1_537), (2_005, 336, 3_552, 2_016)] {
-        let answer = [id, start, length];
-        cases.claim(&map, bits * 1_024, 0).answers(&answer);
+        let pair = [start, length];
+        cases.claim(&map, bits * 1_024, 0).claims(id, &pair);
     }
-    cases.claim(&map, 2_017 * 1_024, 0).gives(15);
+    let pairs = [3_552, 2_016, 1_548, 12];
+    cases
+        .claim_in(&map, 2_017 * 1_024, 0, 4)
+        .claims(336, &pairs);
+    cases.claim(&map, 5_557 * 1_024, 0).gives(15);
 }
 
-/// "no hole of length need", though all holes together have 166 bits.
+/// "When no hole is long enough": all holes together have 166 bits, and only a
+/// claim of more is refused.
 fn no_hole(cases: &mut Cases) {
     let map = holes();
-    cases.claim(&map, 100 * 1_024 + 1, 0).gives(15);
+    let pairs = [first(1) + 32, 100, 52, 12];
+    cases
+        .claim_in(&map, 100 * 1_024 + 1, 0, 5)
+        .claims(168, &pairs);
+    cases.claim(&map, 166 * 1_024 + 1, 0).gives(15);
 }
 
 /// "The id is the lowest unused one from 3 whose start zone is the chosen zone"
@@ -157,7 +166,7 @@ fn lowest_unused_id(cases: &mut Cases) {
         zone.extend(used.map(|id| object(id, 12)));
         zone.push(free(1_488));
         let map = build(&plain(1), &[zone]);
-        cases.claim(&map, 1, 0).answers(&[id, 48, 12]);
+        cases.claim(&map, 1, 0).claims(id, &[48, 12]);
     }
 }
 
@@ -170,7 +179,7 @@ fn id_used_in_the_last_zone_only(cases: &mut Cases) {
         vec![free(2_004), object(3, 12)],
     ];
     let map = build(&plain(3), &zones);
-    cases.claim(&map, 1, 0).answers(&[5, 0, 12]);
+    cases.claim(&map, 1, 0).claims(5, &[0, 12]);
 }
 
 /// "the lowest unused one": with 3 to 23 used, 24 is a link and no id.
@@ -179,7 +188,7 @@ fn ids_of_links(cases: &mut Cases) {
     zone.extend((3..24).map(|id| object(id, 12)));
     zone.extend([free(12), object(3, 12), free(1_236)]);
     let map = build(&plain(1), &[zone]);
-    cases.claim(&map, 1, 0).answers(&[24, 276, 12]);
+    cases.claim(&map, 1, 0).claims(24, &[276, 12]);
 }
 
 /// "Room given back is room again": object 7's joins the holes on both sides to
@@ -187,7 +196,7 @@ fn ids_of_links(cases: &mut Cases) {
 fn room_given_back(cases: &mut Cases) {
     let map = holes();
     let released = cases.release(&map, 7, 2).pairs(&[32, 20]);
-    cases.claim(&released, 50 * 1_024, 0).answers(&[4, 20, 50]);
+    cases.claim(&released, 50 * 1_024, 0).claims(4, &[20, 50]);
 }
 
 /// "nothing outside check byte, FreeLink, cross check and allocation bits".
@@ -197,12 +206,16 @@ fn bits_past_the_zone(cases: &mut Cases) {
         vec![object(2, 12), free(1_999)],
     ];
     let map = with_ones_outside(build(&odd_zone_end(2), &zones));
-    cases.claim(&map, 1, 0).answers(&[3, 1_519, 12]);
-    cases.claim(&map, 2_000 * 1_024, 0).gives(15);
+    cases.claim(&map, 1, 0).claims(3, &[1_519, 12]);
+    let pairs = [1_543, 1_999, 1_519, 12];
+    cases
+        .claim_in(&map, 2_000 * 1_024, 0, 4)
+        .claims(167, &pairs);
+    cases.claim(&map, 2_012 * 1_024, 0).gives(15);
 }
 
-/// "no hole of length need": the hole ends with the disc, and whole zones lie
-/// past it.
+/// "all free bits together are fewer than need": the hole ends with the disc, and
+/// whole zones lie past it.
 fn disc_end(cases: &mut Cases) {
     let zones = [
         vec![object(5, 1_536)],

@@ -394,8 +394,8 @@ fn edits_at_word_ends(cases: &mut Cases) {
     let placed = cases.place(&map_a(), 5, &pairs).done();
     cases.list(&placed, 5, 12).pairs(&pairs);
     cases.free(&placed, 14).pairs(&spans);
-    cases.claim(&placed, 117 * 1_024, 0).answers(&[3, 99, 117]);
-    let last = [3, 1_125, 118];
-    cases.claim(&placed, 118 * 1_024, 0).answers(&last);
+    cases.claim(&placed, 117 * 1_024, 0).claims(3, &[99, 117]);
+    let last = [1_125, 118];
+    cases.claim(&placed, 118 * 1_024, 0).claims(3, &last);
     assert_eq!(cases.release(&placed, 5, 12).pairs(&pairs), map_a());
 }

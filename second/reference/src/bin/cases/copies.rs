@@ -227,6 +227,7 @@ fn cut_off_in_one_zone(cases: &mut Cases) {
     let old = map_b();
     let mut claim = Case::new(Call::Claim, &old);
     claim.wide = 1;
+    claim.list = vec![0; 2];
     let new = claim.run().map;
     for written in [69, 256] {
         after(cases, &old, &new, written).hands_back(1, false);

@@ -169,7 +169,7 @@ fn carried_bytes_stay(cases: &mut Cases) {
     let released = cases.release(&map, 5, 2).pairs(&[120, 21]);
     assert_eq!(released[4..64], map[4..64]);
     assert_eq!(cases.place(&released, 5, &[120, 21]).done(), map);
-    let claimed = cases.claim(&map, 1, 0).answers(&[3, 20, 20]);
+    let claimed = cases.claim(&map, 1, 0).claims(3, &[20, 20]);
     assert_eq!(claimed[4..64], map[4..64]);
     assert_eq!(cases.release(&claimed, 3, 2).pairs(&[20, 20]), map);
 }
@@ -438,7 +438,7 @@ fn every_call_with_another_version(cases: &mut Cases) {
         cases.add(case).gives(2);
     }
     cases.address(&map, 0x000503, 0).gives(2);
-    cases.claim(&map, 0, 0).gives(2);
+    cases.claim_in(&map, 0, 0, 0).gives(2);
     cases.address(&map, u32::MAX, u64::MAX).gives(2);
 }
 
@@ -513,9 +513,9 @@ fn shortest_fragments(cases: &mut Cases) {
     cases.place(&map, 7, &[20, 81]).gives(13);
     cases.place(&map, 7, &[39, 20]).gives(13);
     cases.place(&map, 99, &[20, 50, 70, 50, 141, 50]).done();
-    cases.claim(&map, 1, 0).answers(&[3, 20, 20]);
-    cases.claim(&map, 80 * 1_024, 0).answers(&[3, 20, 80]);
-    cases.claim(&map, 80 * 1_024 + 1, 0).answers(&[3, 20, 100]);
+    cases.claim(&map, 1, 0).claims(3, &[20, 20]);
+    cases.claim(&map, 80 * 1_024, 0).claims(3, &[20, 80]);
+    cases.claim(&map, 80 * 1_024 + 1, 0).claims(3, &[20, 100]);
 }
 
 /// Sectors of 1,024 bytes and map bits of 128: k 8, m 24 for an idlen of 19. P is
@@ -530,7 +530,7 @@ fn clusters(cases: &mut Cases) {
     let zone = |id| vec![object(2, 24), object(id, 32), free(7_624)];
     let map = build(&record, &[zone(407)]);
     cases.list(&map, 407, 2).pairs(&[24, 32]);
-    cases.claim(&map, 1, 0).answers(&[3, 56, 24]);
+    cases.claim(&map, 1, 0).claims(3, &[56, 24]);
     cases.place(&map, 341, &[56, 16]).gives(12);
     cases.place(&map, 341, &[56, 20]).gives(12);
     cases.place(&map, 408, &[56, 24]).gives(8);
@@ -720,8 +720,8 @@ fn with_holes_in_zone_256(holes: &[usize]) -> Vec<u8> {
 fn zones_257(cases: &mut Cases) {
     let map = with_holes_in_zone_256(&[116]);
     assert_eq!((map[13], map[46]), (1, 1));
-    let start = first(256) as u64 + 1_900;
-    let claimed = cases.claim(&map, 1, 0).answers(&[25_600, start, 20]);
+    let start = first(256) + 1_900;
+    let claimed = cases.claim(&map, 1, 0).claims(25_600, &[start, 20]);
     assert_eq!(claimed[..256 * 256], map[..256 * 256]);
 }
 
@@ -774,8 +774,8 @@ fn packed() -> Vec<u8> {
 fn ids_above_16_bits(cases: &mut Cases) {
     let map = packed();
     let hole = 161 * 8_160 - 480 - 2_580;
-    cases.claim(&map, 1, 0).answers(&[65_537, hole, 20]);
-    let start = (hole - 20) * 2_048;
+    cases.claim(&map, 1, 0).claims(65_537, &[hole, 20]);
+    let start = (hole as u64 - 20) * 2_048;
     cases.sweep_object(&map, 65_536, start - 4, 9).answers(&[5]);
 }
 
@@ -825,9 +825,7 @@ fn zones_1000(cases: &mut Cases) {
     let crosses = ITS_ZONES.map(|zone| released[256 * zone + 3]);
     assert_eq!(crosses, [0xFE, 2, 3, 1, 1, 1, 1]);
     assert_eq!(cases.place(&released, WRAPPING, &pairs).done(), map);
-    let hole = of_999 as u64 + 44;
-    let answer = [99_900, hole, 100];
-    let claimed = cases.claim(&map, 84 * 2_048, 0).answers(&answer);
-    let pair = [hole as u32, 100];
+    let pair = [of_999 + 44, 100];
+    let claimed = cases.claim(&map, 84 * 2_048, 0).claims(99_900, &pair);
     assert_eq!(cases.release(&claimed, 99_900, 2).pairs(&pair), map);
 }

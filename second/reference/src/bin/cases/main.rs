@@ -1,7 +1,7 @@
 //! Writes the stored cases: `cases OUTDIR` makes OUTDIR/stdin (the cases) and
 //! OUTDIR/stdout (a line for each). The set is fixed: written-out cases first,
-//! a module for each part of document 01 and for
-//! and R-6 of document 02, then some of a fixed range of seeds.
+//! a module for each part of document 01 and for,
+//! of document 02, then some of a fixed range of seeds.
 //! `cases` alone lists the groups with the lines of OUTDIR/stdout they make.
 
 mod bench;
@@ -16,6 +16,7 @@ mod listing;
 mod maps;
 mod order;
 mod parents;
+mod pieces;
 mod place;
 mod reach;
 mod record;
@@ -39,14 +40,14 @@ use reference::geometry::LARGEST_MAP;
 /// that is not of an E+ disc.
 const SIZES: Sizes = Sizes {
     map: LARGEST_MAP,
-    list: 1_024,
+    list: 4_096,
     image: 16_384,
 };
 /// All cases together stay below this many bytes, and are at most so many.
-const MOST_BYTES: usize = 5_750_000;
-const MOST_CASES: usize = 1_590;
+const MOST_BYTES: usize = 6_280_000;
+const MOST_CASES: usize = 1_760;
 
-const MODULES: [(&str, &[Group]); 18] = [
+const MODULES: [(&str, &[Group]); 19] = [
     ("bench", bench::GROUPS),
     ("record", record::GROUPS),
     ("check", check::GROUPS),
@@ -65,6 +66,7 @@ const MODULES: [(&str, &[Group]); 18] = [
     ("extents", extents::GROUPS),
     ("copies", copies::GROUPS),
     ("parents", parents::GROUPS),
+    ("pieces", pieces::GROUPS),
 ];
 
 /// A group's place among the cases: its module and function, its first case,

@@ -1,9 +1,14 @@
 //! Maps and disc records that several groups use.
 
+use std::ops::Range;
+
 use reference::case::{Call, Case};
 use reference::generate::{build, repair_cross_checks, repair_zone_checks};
 use reference::geometry::{DiscRecord, Geometry, DISC_RECORD, RESERVED};
 use reference::map::{set_bit, set_number, Owner};
+
+/// The owners and lengths of a zone's fragments.
+pub type Parts = Vec<(Owner, usize)>;
 
 pub fn object(id: u32, length: usize) -> (Owner, usize) {
     (Owner::Object(id), length)
@@ -113,7 +118,7 @@ pub fn disc_of(map_bits: u32, record: DiscRecord) -> DiscRecord {
 /// Zones that are full, each of an object of its own, but for object 2. No two
 /// ids are equal, so that a block taken for another one shows, and an object's
 /// start zone is its zone.
-pub fn full_zones(record: &DiscRecord) -> Vec<Vec<(Owner, usize)>> {
+pub fn full_zones(record: &DiscRecord) -> Vec<Parts> {
     let geometry = Geometry::accept(record).expect("a record inside its ranges");
     let zone = |zone: usize| {
         let own = (geometry.ids_per_zone * zone + 7) as u32;
@@ -161,7 +166,7 @@ pub fn with_cross_checks(mut map: Vec<u8>, bytes: [u8; 3]) -> Vec<u8> {
 /// The free spans of a map.
 pub fn spans_of(map: &[u8]) -> Vec<u32> {
     let mut case = Case::new(Call::Free, map);
-    case.list = vec![0; 1_024];
+    case.list = vec![0; 4_096];
     let outcome = case.run();
     outcome.list[..2 * outcome.values[0] as usize].to_vec()
 }
@@ -170,7 +175,7 @@ pub fn spans_of(map: &[u8]) -> Vec<u32> {
 pub fn pairs_of(map: &[u8], id: u32) -> Vec<u32> {
     let mut case = Case::new(Call::List, map);
     case.number = id;
-    case.list = vec![0; 1_024];
+    case.list = vec![0; 4_096];
     let outcome = case.run();
     outcome.list[..2 * outcome.values[0] as usize].to_vec()
 }
@@ -187,6 +192,51 @@ pub fn two_holes() -> Vec<u8> {
             object(7, 1_354),
         ]],
     )
+}
+
+/// Short zones of few ids: Z 512, P 32, k 1 and m 16 for an idlen of 15, and 1,024
+/// bytes of disc behind a map bit. Zone 0 has 32 bits.
+pub fn short_zones(nzones: u16) -> DiscRecord {
+    let record = DiscRecord {
+        idlen: 15,
+        zone_spare: 2_048 - 512,
+        ..plain(nzones)
+    };
+    disc_of(nzones as u32 * 512 - 480, record)
+}
+
+/// The lowest id from 3 of a short zone.
+pub fn lowest(zone: u32) -> u32 {
+    (32 * zone).max(3)
+}
+
+/// The disc bit of a hole at a short zone's end.
+pub fn at_the_end(zone: u32, length: u32) -> u32 {
+    512 * (zone + 1) - 480 - length
+}
+
+/// Full short zones, but for a hole of some length at the end of some zones.
+pub fn with_holes(nzones: u16, holes: &[(usize, usize)]) -> Vec<u8> {
+    let mut zones = full_zones(&short_zones(nzones));
+    for (zone, length) in holes {
+        let last = zones[*zone].last_mut().expect("a full zone");
+        last.1 -= length;
+        zones[*zone].push(free(*length));
+    }
+    build(&short_zones(nzones), &zones)
+}
+
+/// Fragments of m bits with these ids, but that the last one has all that is left of so
+/// many bits.
+pub fn filled(ids: &[u32], m: usize, bits: usize) -> Parts {
+    let mut parts: Parts = ids.iter().map(|id| object(*id, m)).collect();
+    parts.last_mut().expect("an id").1 += bits - m * ids.len();
+    parts
+}
+
+/// A short zone filled with these ids.
+pub fn of_ids(ids: Range<u32>) -> Parts {
+    filled(&Vec::from_iter(ids), 16, 512)
 }
 
 /// Three zones, all free but object 2.
@@ -259,7 +309,7 @@ pub fn three_zones_record() -> DiscRecord {
     }
 }
 
-pub fn three_zones_parts() -> [Vec<(Owner, usize)>; 3] {
+pub fn three_zones_parts() -> [Parts; 3] {
     [
         vec![object(7, 20), free(1_000), object(8, 516)],
         vec![object(2, 12), object(7, 20), free(1_984)],

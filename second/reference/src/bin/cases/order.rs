@@ -35,7 +35,7 @@ fn every_call(cases: &mut Cases, map: &[u8], number: u32, zone: u32) {
     cases.sweep_free(map, u64::MAX, 1).told(number, zone);
     cases.release(map, 0, 0).told(number, zone);
     cases.place(map, 0, &[]).told(number, zone);
-    cases.claim(map, 0, 0).told(number, zone);
+    cases.claim_in(map, 0, 0, 0).told(number, zone);
 }
 
 /// "1 (under 64), 2": 63 bytes with a record outside its ranges.

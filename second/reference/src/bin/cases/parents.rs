@@ -4,8 +4,6 @@
 //! and only if none is left the lowest unused from 3." More of parent zone 0 is in
 //! `claim`.
 
-use std::ops::Range;
-
 use reference::generate::{as_e_plus, build, map_a};
 use reference::geometry::DiscRecord;
 use reference::map::Owner;
@@ -52,40 +50,6 @@ groups![
     given_back,
 ];
 
-type Parts = Vec<(Owner, usize)>;
-
-/// Short zones of few ids: Z 512, P 32, k 1 and m 16 for an idlen of 15, and 1,024
-/// bytes of disc behind a map bit. Zone 0 has 32 bits.
-fn short_zones(nzones: u16) -> DiscRecord {
-    let record = DiscRecord {
-        idlen: 15,
-        zone_spare: 2_048 - 512,
-        ..plain(nzones)
-    };
-    disc_of(nzones as u32 * 512 - 480, record)
-}
-
-/// The lowest id from 3 of a short zone.
-fn lowest(zone: u32) -> u64 {
-    (32 * zone as u64).max(3)
-}
-
-/// The disc bit of a hole at a short zone's end.
-fn at_the_end(zone: u32, length: u32) -> u64 {
-    (512 * (zone + 1) - 480 - length) as u64
-}
-
-/// Full short zones, but for a hole of some length at the end of some zones.
-fn with_holes(nzones: u16, holes: &[(usize, usize)]) -> Vec<u8> {
-    let mut zones = full_zones(&short_zones(nzones));
-    for (zone, length) in holes {
-        let last = zones[*zone].last_mut().expect("a full zone");
-        last.1 -= length;
-        zones[*zone].push(free(*length));
-    }
-    build(&short_zones(nzones), &zones)
-}
-
 /// The same with a hole of 16 bits in each of some zones.
 fn with_holes_in(nzones: u16, zones: &[usize]) -> Vec<u8> {
     let holes: Vec<(usize, usize)> = zones.iter().map(|zone| (*zone, 16)).collect();
@@ -96,10 +60,10 @@ fn with_holes_in(nzones: u16, zones: &[usize]) -> Vec<u8> {
 /// remain of those of 20.
 fn the_parent_itself(cases: &mut Cases) {
     let map = with_holes(5, &[(0, 16), (1, 20), (2, 20), (3, 20), (4, 20)]);
-    cases.claim(&map, 1, 0).answers(&[3, 16, 16]);
+    cases.claim(&map, 1, 0).claims(3, &[16, 16]);
     for zone in 1..5 {
-        let answer = [lowest(zone), at_the_end(zone, 20), 20];
-        cases.claim(&map, 1, zone).answers(&answer);
+        let pair = [at_the_end(zone, 20), 20];
+        cases.claim(&map, 1, zone).claims(lowest(zone), &pair);
     }
 }
 
@@ -109,8 +73,9 @@ fn in_turn(cases: &mut Cases, parent: u32, order: &[u32]) {
     let nzones = order.len();
     let mut map = with_holes_in(nzones as u16, &Vec::from_iter(0..nzones));
     for zone in order {
-        let answer = [lowest(*zone), at_the_end(*zone, 16), 16];
-        map = cases.claim(&map, 1, parent).answers(&answer);
+        let pair = [at_the_end(*zone, 16), 16];
+        let claim = cases.claim(&map, 1, parent);
+        map = claim.claims(lowest(*zone), &pair);
     }
     cases.claim(&map, 1, parent).gives(15);
 }
@@ -154,8 +119,8 @@ fn equal_distance(cases: &mut Cases) {
         ([2, 6], 2),
     ] {
         let map = with_holes_in(7, &zones);
-        let answer = [lowest(chosen), at_the_end(chosen, 16), 16];
-        cases.claim(&map, 1, 3).answers(&answer);
+        let pair = [at_the_end(chosen, 16), 16];
+        cases.claim(&map, 1, 3).claims(lowest(chosen), &pair);
     }
 }
 
@@ -166,7 +131,7 @@ fn distance_in_zones(cases: &mut Cases) {
     zones[1] = vec![free(16), object(39, 496)];
     zones[3] = vec![free(16), object(103, 496)];
     let map = build(&short_zones(5), &zones);
-    cases.claim(&map, 1, 2).answers(&[32, 32, 16]);
+    cases.claim(&map, 1, 2).claims(32, &[32, 16]);
 }
 
 /// "holes ascending: the first hole of length at least need" in the parent zone, though
@@ -184,14 +149,14 @@ fn holes_ascending(cases: &mut Cases) {
     ];
     zones[3] = vec![free(512)];
     let map = build(&short_zones(5), &zones);
-    for (bits, answer) in [
-        (1, [64, 560, 17]),
-        (18, [64, 677, 18]),
-        (40, [64, 677, 40]),
-        (41, [64, 677, 41]),
-        (59, [32, 32, 59]),
+    for (bits, id, pair) in [
+        (1, 64, [560, 17]),
+        (18, 64, [677, 18]),
+        (40, 64, [677, 40]),
+        (41, 64, [677, 41]),
+        (59, 32, [32, 59]),
     ] {
-        cases.claim(&map, bits * 1_024, 2).answers(&answer);
+        cases.claim(&map, bits * 1_024, 2).claims(id, &pair);
     }
 }
 
@@ -202,13 +167,13 @@ fn holes_ascending_elsewhere(cases: &mut Cases) {
     zones[1] = vec![free(20), object(39, 460), free(32)];
     zones[3] = vec![free(40), object(103, 422), free(50)];
     let map = build(&short_zones(5), &zones);
-    for (bits, answer) in [
-        (20, [32, 32, 20]),
-        (21, [32, 512, 32]),
-        (33, [96, 1_056, 40]),
-        (41, [96, 1_518, 50]),
+    for (bits, id, pair) in [
+        (20, 32, [32, 20]),
+        (21, 32, [512, 32]),
+        (33, 96, [1_056, 40]),
+        (41, 96, [1_518, 50]),
     ] {
-        cases.claim(&map, bits * 1_024, 2).answers(&answer);
+        cases.claim(&map, bits * 1_024, 2).claims(id, &pair);
     }
 }
 
@@ -217,8 +182,8 @@ fn holes_ascending_elsewhere(cases: &mut Cases) {
 fn too_short_nearby(cases: &mut Cases) {
     let map = with_holes(6, &[(1, 31), (2, 31), (3, 31), (4, 32), (5, 300)]);
     for parent in [2, 3] {
-        let answer = [128, at_the_end(4, 32), 32];
-        cases.claim(&map, 32 * 1_024, parent).answers(&answer);
+        let pair = [at_the_end(4, 32), 32];
+        cases.claim(&map, 32 * 1_024, parent).claims(128, &pair);
     }
 }
 
@@ -226,8 +191,8 @@ fn too_short_nearby(cases: &mut Cases) {
 fn only_the_last_zone_tried(cases: &mut Cases) {
     for (nzones, parent, zone) in [(7, 3, 6), (6, 3, 0), (5, 0, 4), (5, 4, 0), (5, 1, 4)] {
         let map = with_holes_in(nzones, &[zone as usize]);
-        let answer = [lowest(zone), at_the_end(zone, 16), 16];
-        cases.claim(&map, 1, parent).answers(&answer);
+        let pair = [at_the_end(zone, 16), 16];
+        cases.claim(&map, 1, parent).claims(lowest(zone), &pair);
     }
 }
 
@@ -235,10 +200,10 @@ fn only_the_last_zone_tried(cases: &mut Cases) {
 /// it, though no id of the parent is used but one.
 fn id_of_the_zone_of_the_hole(cases: &mut Cases) {
     let map = with_holes_in(5, &[3]);
-    cases.claim(&map, 1, 1).answers(&[96, 1_552, 16]);
-    cases.claim(&map, 1, 4).answers(&[96, 1_552, 16]);
+    cases.claim(&map, 1, 1).claims(96, &[1_552, 16]);
+    cases.claim(&map, 1, 4).claims(96, &[1_552, 16]);
     let map = with_holes_in(5, &[0]);
-    cases.claim(&map, 1, 2).answers(&[3, 16, 16]);
+    cases.claim(&map, 1, 2).claims(3, &[16, 16]);
 }
 
 /// "the start zone is id div P", and P is 8160 div 14, 582, "without that rounding":
@@ -251,21 +216,8 @@ fn ids_per_zone_without_rounding(cases: &mut Cases) {
         vec![object(581, 8_144), free(16)],
     ];
     let map = build(&record, &zones);
-    cases.claim(&map, 1, 0).answers(&[582, 7_696, 16]);
-    cases.claim(&map, 1, 2).answers(&[1_164, 23_984, 16]);
-}
-
-/// Fragments of m bits with these ids, but that the last one has all that is left of so
-/// many bits.
-fn filled(ids: &[u32], m: usize, bits: usize) -> Parts {
-    let mut parts: Parts = ids.iter().map(|id| object(*id, m)).collect();
-    parts.last_mut().expect("an id").1 += bits - m * ids.len();
-    parts
-}
-
-/// A short zone filled with these ids.
-fn of_ids(ids: Range<u32>) -> Parts {
-    filled(&Vec::from_iter(ids), 16, 512)
+    cases.claim(&map, 1, 0).claims(582, &[7_696, 16]);
+    cases.claim(&map, 1, 2).claims(1_164, &[23_984, 16]);
 }
 
 /// Five short zones with a hole of 16 bits at the end of one, whose ids are all used by
@@ -275,7 +227,7 @@ fn used_up(zone: usize, elsewhere: usize) -> Vec<Parts> {
     let last = zones[zone].last_mut().expect("a full zone");
     last.1 -= 16;
     zones[zone].push(free(16));
-    let first = lowest(zone as u32) as u32;
+    let first = lowest(zone as u32);
     zones[elsewhere] = of_ids(first..32 * (zone as u32 + 1));
     zones
 }
@@ -285,12 +237,12 @@ fn used_up(zone: usize, elsewhere: usize) -> Vec<Parts> {
 fn all_ids_used(cases: &mut Cases) {
     let mut zones = used_up(2, 3);
     let map = build(&short_zones(5), &zones);
-    cases.claim(&map, 1, 2).answers(&[3, 1_040, 16]);
-    cases.claim(&map, 1, 4).answers(&[3, 1_040, 16]);
+    cases.claim(&map, 1, 2).claims(3, &[1_040, 16]);
+    cases.claim(&map, 1, 4).claims(3, &[1_040, 16]);
     zones[0] = vec![object(4, 16), object(3, 16)];
     let map = build(&short_zones(5), &zones);
-    cases.claim(&map, 1, 2).answers(&[5, 1_040, 16]);
-    cases.claim(&map, 1, 0).answers(&[5, 1_040, 16]);
+    cases.claim(&map, 1, 2).claims(5, &[1_040, 16]);
+    cases.claim(&map, 1, 0).claims(5, &[1_040, 16]);
 }
 
 /// "the lowest unused from 3" is above those of the zone: 3 to 63 are used, and 64 is
@@ -299,8 +251,8 @@ fn all_ids_used_and_the_lowest_above(cases: &mut Cases) {
     let mut zones = used_up(1, 3);
     zones[4] = of_ids(3..32);
     let map = build(&short_zones(5), &zones);
-    cases.claim(&map, 1, 1).answers(&[64, 528, 16]);
-    cases.claim(&map, 1, 4).answers(&[64, 528, 16]);
+    cases.claim(&map, 1, 1).claims(64, &[528, 16]);
+    cases.claim(&map, 1, 4).claims(64, &[528, 16]);
 }
 
 /// "the lowest unused from 3" is neither in zone 0 nor next to the hole's zone: 3 to
@@ -311,7 +263,7 @@ fn all_ids_used_and_the_lowest_between(cases: &mut Cases) {
     zones[1] = of_ids(5..37);
     zones[2] = vec![object(2, 16), object(37, 496)];
     let map = build(&short_zones(5), &zones);
-    cases.claim(&map, 1, 3).answers(&[38, 1_552, 16]);
+    cases.claim(&map, 1, 3).claims(38, &[1_552, 16]);
 }
 
 /// "only if none is left" of the zone of the hole: the parent has none left, and zone 1
@@ -321,7 +273,7 @@ fn all_ids_of_the_parent_used(cases: &mut Cases) {
     zones[1] = vec![object(39, 496), free(16)];
     zones[2] = vec![object(2, 16), object(71, 496)];
     let map = build(&short_zones(5), &zones);
-    cases.claim(&map, 1, 2).answers(&[32, 528, 16]);
+    cases.claim(&map, 1, 2).claims(32, &[528, 16]);
 }
 
 /// "only if none is left": the last, the first or another one is.
@@ -334,8 +286,7 @@ fn one_id_left(cases: &mut Cases) {
             }
         }
         let map = build(&short_zones(5), &zones);
-        let answer = [left as u64, 1_040, 16];
-        cases.claim(&map, 1, 2).answers(&answer);
+        cases.claim(&map, 1, 2).claims(left, &[1_040, 16]);
     }
 }
 
@@ -347,9 +298,9 @@ fn ids_of_zone_0(cases: &mut Cases) {
         zones[0] = vec![object(100, 16), free(16)];
         zones[3] = of_ids(ids);
         let map = build(&short_zones(5), &zones);
-        cases.claim(&map, 1, 0).answers(&[id, 16, 16]);
+        cases.claim(&map, 1, 0).claims(id, &[16, 16]);
         if id == 32 {
-            cases.claim(&map, 1, 3).answers(&[id, 16, 16]);
+            cases.claim(&map, 1, 3).claims(id, &[16, 16]);
         }
     }
 }
@@ -358,10 +309,10 @@ fn ids_of_zone_0(cases: &mut Cases) {
 fn ids_of_the_last_zone(cases: &mut Cases) {
     let mut zones = used_up(4, 1);
     let map = build(&short_zones(5), &zones);
-    cases.claim(&map, 1, 4).answers(&[3, 2_064, 16]);
+    cases.claim(&map, 1, 4).claims(3, &[2_064, 16]);
     zones[1] = of_ids(128..159);
     let map = build(&short_zones(5), &zones);
-    cases.claim(&map, 1, 4).answers(&[159, 2_064, 16]);
+    cases.claim(&map, 1, 4).claims(159, &[2_064, 16]);
 }
 
 /// The most ids a zone can have: P 582 for an idlen of 13, k 1, m 14, Z 8160. Those of
@@ -386,7 +337,7 @@ fn most_ids_of_a_zone(cases: &mut Cases) {
         zone_1.extend(filled(in_zone_1, 14, 8_160 - 28));
         zone_1.push(free(14));
         let map = build(&record, &[filled(in_zone_0, 14, 7_680), zone_1]);
-        cases.claim(&map, 1, 0).answers(&[id, 15_826, 14]);
+        cases.claim(&map, 1, 0).claims(id, &[15_826, 14]);
     }
 }
 
@@ -397,11 +348,11 @@ fn ids_used_in_other_zones_only(cases: &mut Cases) {
     zones[1] = vec![free(16), object(100, 496)];
     zones[3] = vec![object(32, 512)];
     let map = build(&short_zones(4), &zones);
-    cases.claim(&map, 1, 1).answers(&[33, 32, 16]);
+    cases.claim(&map, 1, 1).claims(33, &[32, 16]);
     zones[0] = vec![object(33, 32)];
     zones[1] = vec![free(16), object(34, 496)];
     let map = build(&short_zones(4), &zones);
-    cases.claim(&map, 1, 3).answers(&[35, 32, 16]);
+    cases.claim(&map, 1, 3).claims(35, &[32, 16]);
 }
 
 /// "A free fragment's id counts from its own start to the next one": 33 is a link and
@@ -418,8 +369,8 @@ fn links_are_no_ids(cases: &mut Cases) {
     ];
     zones[2] = vec![object(90, 512)];
     let map = build(&short_zones(3), &zones);
-    cases.claim(&map, 1, 1).answers(&[33, 48, 16]);
-    cases.claim(&map, 1, 2).answers(&[33, 48, 16]);
+    cases.claim(&map, 1, 1).claims(33, &[48, 16]);
+    cases.claim(&map, 1, 2).claims(33, &[48, 16]);
 }
 
 /// Three zones with a hole in each.
@@ -430,7 +381,7 @@ fn three_holes() -> Vec<u8> {
 /// "refusal 12 if not below nzones", as for 0 bytes.
 fn no_such_parent(cases: &mut Cases) {
     let map = three_holes();
-    cases.claim(&map, 1, 2).answers(&[64, 856, 16]);
+    cases.claim(&map, 1, 2).claims(64, &[856, 16]);
     for parent in [3, 4, u32::MAX] {
         cases.claim(&map, 1, parent).gives(12);
         cases.claim(&map, 0, parent).gives(12);
@@ -455,7 +406,7 @@ fn one_zone(cases: &mut Cases) {
         cases.claim(&map, 1, parent).gives(12);
     }
     let map = as_e_plus(&map);
-    cases.claim(&map, 1, 0).answers(&[3, 12, 12]);
+    cases.claim(&map, 1, 0).claims(3, &[12, 12]);
     for parent in [1, 256] {
         cases.claim(&map, 1, parent).gives(12);
     }
@@ -498,12 +449,16 @@ fn no_such_parent_on_a_damaged_map(cases: &mut Cases) {
     }
 }
 
-/// "Refusals 14 and 15 keep their meaning": no hole has 41 bits, though all of them
-/// together have 135, in whatever zone the search begins.
+/// No hole has 41 bits, in whatever zone the search begins: what is taken "when no hole
+/// is long enough" (R-8) does not depend on the parent, nor does 15. All holes together
+/// have 135 bits.
 fn no_hole_whatever_the_parent(cases: &mut Cases) {
     let map = with_holes(5, &[(0, 16), (1, 40), (2, 40), (4, 39)]);
     for parent in 0..5 {
-        cases.claim(&map, 40 * 1_024 + 1, parent).gives(15);
+        let pairs = [504, 40, 1_016, 16];
+        let claim = cases.claim_in(&map, 40 * 1_024 + 1, parent, 5);
+        claim.claims(32, &pairs);
+        cases.claim(&map, 135 * 1_024 + 1, parent).gives(15);
     }
 }
 
@@ -516,8 +471,8 @@ fn parent_past_the_disc(cases: &mut Cases) {
     zones[3] = vec![object(1, 512)];
     zones[4] = vec![object(1, 512)];
     let map = build(&record, &zones);
-    cases.claim(&map, 1, 3).answers(&[64, 560, 16]);
-    cases.claim(&map, 1, 4).answers(&[64, 560, 16]);
+    cases.claim(&map, 1, 3).claims(64, &[560, 16]);
+    cases.claim(&map, 1, 4).claims(64, &[560, 16]);
 }
 
 /// E+: parent 257 of 258 zones is full, and 256 comes next. In a byte the parent is
@@ -531,38 +486,41 @@ fn parent_above_255(cases: &mut Cases) {
         zones[zone].push(free(20));
     }
     let map = build(&record, &zones);
-    let start = first(257) as u64 - 20;
-    cases.claim(&map, 1, 257).answers(&[25_600, start, 20]);
+    let start = first(257) - 20;
+    cases.claim(&map, 1, 257).claims(25_600, &[start, 20]);
 }
 
 /// "An accepted place or claim followed at once by its release ... does the same":
 /// three claims, undone last first.
 fn released_last_first(cases: &mut Cases) {
     let map = with_holes(5, &[(0, 16), (1, 100), (3, 40)]);
-    let one = cases.claim(&map, 1, 4).answers(&[96, 1_528, 16]);
-    let two = cases.claim(&one, 30 * 1_024, 4).answers(&[32, 444, 30]);
-    let three = cases.claim(&two, 1, 0).answers(&[3, 16, 16]);
+    let one = cases.claim(&map, 1, 4).claims(96, &[1_528, 16]);
+    let two = cases.claim(&one, 30 * 1_024, 4).claims(32, &[444, 30]);
+    let three = cases.claim(&two, 1, 0).claims(3, &[16, 16]);
     assert_eq!(cases.release(&three, 3, 2).pairs(&[16, 16]), two);
     assert_eq!(cases.release(&two, 32, 2).pairs(&[444, 30]), one);
     assert_eq!(cases.release(&one, 96, 2).pairs(&[1_528, 16]), map);
 }
 
 /// Claims of 32 bits near zone 2 until it has no such hole, then in the zones next to
-/// it; at last one of 16 bits, for which it has one still.
+/// it. Two holes of 16 bits are left, for one more in two pieces (R-8), or for two of 16
+/// bits.
 fn until_the_zone_is_full(cases: &mut Cases) {
     let mut map = with_holes(4, &[(0, 16), (1, 64), (2, 80), (3, 40)]);
-    for answer in [
-        [64, 976, 32],
-        [65, 1_008, 32],
-        [32, 480, 32],
-        [33, 512, 32],
-        [96, 1_528, 40],
+    for (id, pair) in [
+        (64, [976, 32]),
+        (65, [1_008, 32]),
+        (32, [480, 32]),
+        (33, [512, 32]),
+        (96, [1_528, 40]),
     ] {
-        map = cases.claim(&map, 32 * 1_024, 2).answers(&answer);
+        map = cases.claim(&map, 32 * 1_024, 2).claims(id, &pair);
     }
-    cases.claim(&map, 32 * 1_024, 2).gives(15);
-    let map = cases.claim(&map, 1, 2).answers(&[66, 1_040, 16]);
-    cases.claim(&map, 1, 2).answers(&[3, 16, 16]);
+    let pairs = [16, 16, 1_040, 16];
+    cases.claim_in(&map, 32 * 1_024, 2, 4).claims(3, &pairs);
+    cases.claim(&map, 33 * 1_024, 2).gives(15);
+    let map = cases.claim(&map, 1, 2).claims(66, &[1_040, 16]);
+    cases.claim(&map, 1, 2).claims(3, &[16, 16]);
 }
 
 /// "Room given back is room again", and so is its id: 65 of 64 to 66.
@@ -578,6 +536,6 @@ fn given_back(cases: &mut Cases) {
     let map = build(&short_zones(4), &zones);
     let released = cases.release(&map, 65, 2).pairs(&[576, 20]);
     let claimed = cases.claim(&released, 20 * 1_024, 2);
-    assert_eq!(claimed.answers(&[65, 576, 20]), map);
-    cases.claim(&map, 20 * 1_024, 2).answers(&[67, 996, 20]);
+    assert_eq!(claimed.claims(65, &[576, 20]), map);
+    cases.claim(&map, 20 * 1_024, 2).claims(67, &[996, 20]);
 }

@@ -178,7 +178,7 @@ fn carried_bytes_stay(cases: &mut Cases) {
     let released = cases.release(&map, 5, 2).pairs(&[12, 20]);
     assert_eq!(released[4..64], map[4..64]);
     assert_eq!(cases.place(&released, 5, &[12, 20]).done(), map);
-    let claimed = cases.claim(&map, 1, 0).answers(&[3, 32, 12]);
+    let claimed = cases.claim(&map, 1, 0).claims(3, &[32, 12]);
     assert_eq!(claimed[4..64], map[4..64]);
 }
 
@@ -352,7 +352,7 @@ fn every_call_with_wrong_arguments(cases: &mut Cases) {
     cases.release(&map, 0, 0).gives(2);
     cases.place(&map, 0, &[]).gives(2);
     cases.place(&map, 5, &[12]).gives(2);
-    cases.claim(&map, 0, 0).gives(2);
+    cases.claim_in(&map, 0, 0, 0).gives(2);
     let mut made = cases.0[before..].iter();
     assert!(made.all(|case| number_on_b(case) > 2));
 }

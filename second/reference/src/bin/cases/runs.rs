@@ -43,8 +43,8 @@ fn place_then_release(cases: &mut Cases) {
 fn claim_then_release(cases: &mut Cases) {
     let map = four_zones();
     let size = 1_414 * 1_024;
-    let claimed = cases.claim(&map, size, 0).answers(&[3, 122, 1_414]);
-    let second = cases.claim(&claimed, 1, 0).answers(&[168, 1_673, 12]);
+    let claimed = cases.claim(&map, size, 0).claims(3, &[122, 1_414]);
+    let second = cases.claim(&claimed, 1, 0).claims(168, &[1_673, 12]);
     assert_eq!(cases.release(&second, 168, 2).pairs(&[1_673, 12]), claimed);
     assert_eq!(cases.release(&claimed, 3, 2).pairs(&[122, 1_414]), map);
 }
@@ -58,7 +58,7 @@ fn release_then_claim(cases: &mut Cases) {
     ];
     let map = build(&plain(2), &zones);
     let released = cases.release(&map, 3, 2).pairs(&[20, 30]);
-    let claimed = cases.claim(&released, 30 * 1_024, 0).answers(&[3, 20, 30]);
+    let claimed = cases.claim(&released, 30 * 1_024, 0).claims(3, &[20, 30]);
     assert_eq!(claimed, map);
 }
 
@@ -81,7 +81,7 @@ fn undone_last_first(cases: &mut Cases) {
 /// "with refused calls struck out": they write nothing.
 fn refused_calls_between(cases: &mut Cases) {
     let map = map_b();
-    let claimed = cases.claim(&map, 1, 0).answers(&[3, 32, 12]);
+    let claimed = cases.claim(&map, 1, 0).claims(3, &[32, 12]);
     cases.place(&claimed, 4, &[32, 12]).gives(13);
     cases.release(&claimed, 3, 1).gives(17);
     assert_eq!(cases.release(&claimed, 3, 2).pairs(&[32, 12]), map);

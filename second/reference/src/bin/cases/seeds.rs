@@ -11,7 +11,8 @@ const LARGEST_MAP: usize = 32_768;
 
 /// A small case for each call and each of its refusals, and a few accepted
 /// ones of each call, one of them large. Claims of 0 bytes and those without a parent
-/// zone (R-6 of document 02) are refused with the same number, and counted apart.
+/// zone (R-6 of document 02) are refused with the same number, and counted apart, as are
+/// those accepted in one piece and in several.
 pub fn from_seeds(sizes: &Sizes) -> Vec<Case> {
     let sizes = &Sizes {
         map: LARGEST_MAP,
@@ -20,13 +21,17 @@ pub fn from_seeds(sizes: &Sizes) -> Vec<Case> {
     let mut taken = Vec::new();
     let mut times: BTreeMap<(Call, u32, bool), usize> = BTreeMap::new();
     let mut larger: BTreeMap<Call, usize> = BTreeMap::new();
+    let apart = |case: &Case, outcome: &Outcome| match (case.call, outcome.number) {
+        (Call::Claim, 12) => case.wide != 0,
+        (Call::Claim, 0) => outcome.values[1] > 1,
+        _ => false,
+    };
     for seed in 1_000..3_000 {
         // At most two cases of a seed, so that the maps differ.
         let mut of_seed = 0;
         play(seed, sizes, &mut |case: &Case, outcome: &Outcome| {
             let bytes = case.bytes().len();
-            let no_parent = case.call == Call::Claim && outcome.number == 12 && case.wide != 0;
-            let kind = (case.call, outcome.number, no_parent);
+            let kind = (case.call, outcome.number, apart(case, outcome));
             let wanted = if outcome.number == 0 { 4 } else { 1 };
             let count = times.entry(kind).or_insert(0);
             let small = bytes <= 3_200 && *count < wanted;

@@ -279,17 +279,21 @@ fn refused_lists(cases: &mut Cases) {
 }
 
 /// "The first hole of length at least need": the only one is in zone 128, or in zone
-/// 254, whose first ids are given; and "no hole of length need".
+/// 254, whose first ids are given. "When no hole is long enough", those of
+/// zones 128 and 127 are; all together have 290 bits.
 fn claims(cases: &mut Cases) {
     let map = half_as_long();
-    let start = first(128) as u64;
     let id = 128 * 126;
-    cases.claim(&map, 84 * 1_024, 0).answers(&[id, start, 84]);
-    cases.claim(&map, 100 * 1_024 + 1, 0).gives(15);
-    let start = first(254) as u64 + 1_916;
+    let pair = [first(128), 84];
+    cases.claim(&map, 84 * 1_024, 0).claims(id, &pair);
+    let pairs = [first(128), 100, first(127) + 1_946, 16];
+    cases
+        .claim_in(&map, 100 * 1_024 + 1, 0, 4)
+        .claims(id, &pairs);
+    cases.claim(&map, 290 * 1_024 + 1, 0).gives(15);
     let size = 84 * 1_024 + 1;
-    let answer = [254 * 126, start, 100];
-    cases.claim(&wrapping(), size, 0).answers(&answer);
+    let pair = [first(254) + 1_916, 100];
+    cases.claim(&wrapping(), size, 0).claims(254 * 126, &pair);
 }
 
 /// "The id is the lowest unused one from 3 whose start zone is the chosen zone":
@@ -306,8 +310,8 @@ fn claim_of_a_high_id(cases: &mut Cases) {
     }
     zones[128].push(free(2_016 - 31 * 16));
     let map = build(&many_zones(130), &zones);
-    let start = first(128) as u64 + 31 * 16;
-    cases.claim(&map, 1, 0).answers(&[16_131, start, 16]);
+    let start = first(128) + 31 * 16;
+    cases.claim(&map, 1, 0).claims(16_131, &[start, 16]);
 }
 
 /// The record with 128 bytes a map bit, and so a k of 2, and a disc that ends

@@ -1,0 +1,2 @@
+pub mod HoleBits
+pub mod Picked
