@@ -183,7 +183,7 @@ module _ (g : Geometry) (l : List Piece) (size parent id : ℕ) (qs : List Pair)
       go none a p b c = let z : _≡_ {A = ℕ} 0 1 = cc in absurd (omega arith)
       go (some any) a none b c = let z : _≡_ {A = ℕ} 0 1 = cc in absurd (omega arith)
       go (some any) a (some t) b c =
-          let d : choiceOf (idFor g l any t) g t ≡ choice id qs = cc in
+          let d : choiceOf g (idFor g l any t) t ≡ choice id qs = cc in
           let i : idFor g l any t ≡ id = ap (λ (x : Choice). x .id) d in
           record { any = any; any-lowest = a; taken = t; taken-is = b; id-is = i; pairs-are = ap (λ (x : ℕ). inObjectOrder g x t) (sym i) ∙ ap (λ (x : Choice). x .pairs) d }
 

@@ -136,5 +136,5 @@ never-fourteen g l (claim size parent room) {z = z} ok fit h =
     go none e o h = no-fourteen g l ok fit e
     go (some i) e none h = omega (arith, same-number h)
     go (some i) e (some qs) h =
-        let c = choiceOf (idFor g l i qs) g qs in
+        let c = choiceOf g (idFor g l i qs) qs in
         edit-not (gives (c .id) (c .pairs)) (passed (leb (2 * length (c .pairs)) room) 17 (answered (gives (c .id) (c .pairs))) (λ e. omega arith) h)

@@ -125,15 +125,15 @@ choice id qs = record { id = id; pairs = qs }
 abbrev pub inObjectOrder : Geometry → ℕ → List Pair → List Pair
 inObjectOrder g id qs = rotate (λ q. late g id (own id q)) (byStart qs)
 
-abbrev pub choiceOf : ℕ → Geometry → List Pair → Choice
-choiceOf id g qs = choice id (inObjectOrder g id qs)
+abbrev pub choiceOf : Geometry → ℕ → List Pair → Choice
+choiceOf g id qs = choice id (inObjectOrder g id qs)
 
 -- 14: "no unused id"; 15: nothing can be taken, which the contract of `runs::edit_table` shows to be "exactly if all free bits together are fewer than
 -- need"
 abbrev pub chooseIn : Geometry → List Piece → Option ℕ → Option (List Pair) → Answer Choice
 chooseIn g l none o = refused 14 0
 chooseIn g l (some any) none = refused 15 0
-chooseIn g l (some any) (some qs) = answered (choiceOf (idFor g l any qs) g qs)
+chooseIn g l (some any) (some qs) = answered (choiceOf g (idFor g l any qs) qs)
 
 -- what a claim of so many bytes near a parent zone chooses: the one definition that another way of choosing replaces
 abbrev pub chosen : Geometry → List Piece → ℕ → ℕ → Answer Choice
