@@ -289,18 +289,18 @@ pub extern "C" fn shoalswift_copy_addresses(
     }
 }
 
-// The number of pairs, or a refusal and its zone.
-fn pairs_told(r: Listed, pairs: &mut u64, zone: &mut u32) -> u32
-    ensures { λ n. ⌜ (n, now (zone .exit), now (pairs .exit)) ≡ listNumbers r ⌝ }
+// The number of pairs written, or a refusal and its zone.
+fn pairs_told(r: Listed, written: &mut u64, zone: &mut u32) -> u32
+    ensures { λ n. ⌜ (n, now (zone .exit), now (written .exit)) ≡ listNumbers r ⌝ }
 {
     match r {
         Listed::Pairs(n) => {
-            *pairs = n as u64;
+            *written = n as u64;
             *zone = 0;
             0
         }
         Listed::Refused(q) => {
-            *pairs = 0;
+            *written = 0;
             *zone = q.zone;
             q.number
         }
