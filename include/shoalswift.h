@@ -99,9 +99,10 @@ uint32_t shoalswift_place(uint8_t *map, size_t map_len, uint32_t id, const uint3
 /* Gives room for size bytes to an unused id, and writes the pieces given in object order, as shoalswift_list would; *pairs is their number.
  * One hole that is long enough is taken if there is one: zones are tried from the parent zone on (that one, the one below it, the one above it,
  * two below and so on), and in a zone the first such hole is taken. If there is none, holes are taken the largest first, of equal ones the lower
- * disc bit first: whole, while they are no longer than what remains to be found, and of the last one what remains. The id is the lowest unused
- * one whose start zone is the zone of the first hole taken, or if that has none left the lowest unused one. Further: 9, 12 (0 bytes, or no such
- * parent zone), 15, 17. */
+ * disc bit first: whole, while they are no longer than what remains to be found, and of the last one what remains. No piece is shorter than a
+ * fragment may be, and where less than that would be left of a hole all of it is taken, so that the pieces may have some bits more than size
+ * asks for. The id is the lowest unused one whose start zone is the zone of the first hole taken, or if that has none left the lowest unused
+ * one. Further: 9, 12 (0 bytes, or no such parent zone), 15, 17. */
 uint32_t shoalswift_claim(uint8_t *map, size_t map_len, uint64_t size, uint32_t parent, uint32_t *list, size_t list_len, uint32_t *id,
                           uint64_t *pairs, uint32_t *zone);
 

@@ -20,7 +20,8 @@ use Rattle.edits.specs.Room.{In}
 use Rattle.edits.specs.EditableMap.{EditableMap}
 use Rattle.edits.proofs.EditableMap.{map-pieces}
 use Rattle.edits.proofs.HolesSpans.{FreeEach, each-same, holes-free}
-use Rattle.edits.proofs.HolesAscend.{ascends-weaken, all-holes-ascend}
+use Rattle.split.proofs.Picked.{ascends-weaken}
+use Rattle.edits.proofs.HolesAscend.{all-holes-ascend}
 use Rattle.edits.proofs.ClaimFits.{in-holes, hole-size}
 
 held-each : (m : List ℕ) (g : Geometry) (z : ℕ) (ess : List (List Entry)) → ReadInTurn m g z ess → FreeEach g (heldIn g 0 m) z ess × (z + length ess ≡ g .zones)

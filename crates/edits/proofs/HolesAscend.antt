@@ -16,16 +16,13 @@ use Rattle.model.specs.Pieces.{Piece}
 use Rattle.model.proofs.ChainDrawn.{Lies}
 use Rattle.split.specs.Taken.{putBy, sortBy, lower, byStart}
 use Rattle.split.specs.Laws.{Ascends, FrontTaken}
+use Rattle.split.proofs.Picked.{ascends-weaken}
 use Rattle.edits.specs.Edits.{inZone}
 use Rattle.edits.specs.Holes.{hole, holes, holesIn, holesFrom}
 use Rattle.edits.specs.Room.{In, Earlier}
 use Rattle.edits.proofs.Kept.{all-keep}
 use Rattle.edits.proofs.HolesLeft.{apart-lies}
 use Rattle.edits.proofs.Invariant.{FitPieces, some-bits}
-
-pub ascends-weaken : (a b : ℕ) (hs : List Pair) → b ≤ a → Ascends a hs → Ascends b hs
-ascends-weaken a b [] k s = tt
-ascends-weaken a b (h ∷ hs) k s = (omega arith, s .1)
 
 pub ascends-in : (a : ℕ) (hs : List Pair) (h : Pair) → Ascends a hs → In h hs → a ≤ h .start
 ascends-in a [] h s i = absurd i

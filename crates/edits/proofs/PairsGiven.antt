@@ -1,5 +1,5 @@
 -- What an accepted call that gives pairs has tested: its id is an ordinary one, it gives some pairs, and a place of the same pairs under
--- the same id is accepted too. So a claim is the place of its pair.
+-- the same id is accepted too. So a claim is the place of its pairs.
 use mathlib.Core.Path.{_≡_, refl, sym, ap, _∙_, subst}
 use mathlib.Core.Bool.{true, not, _&&_}
 use mathlib.Core.List.{List, [], _∷_}

@@ -3,11 +3,11 @@
 use mathlib.Core.Path.{_≡_, refl, sym, ap, _∙_}
 use mathlib.Core.Bool.{Bool, not}
 use mathlib.Core.List.{List, [], _∷_}
-use Prim.Native.Nat.{ℕ, suc, _+_, _*_, _/_, _%_, _<_, _≤_, max}
-use native.Mathlib.Nat.{div-add-mod', mul-le-mul-right, suc-mul, zero-mod}
+use Prim.Native.Nat.{ℕ, _+_, _*_, _%_, _<_, _≤_, max}
+use native.Mathlib.Nat.{mod-self, zero-mod}
 use native.Mathlib.Omega.{arith}
 use lib.Dec.{ltb}
-use borrow.Author.Tests.{ltb-true, ltb-false}
+use borrow.Author.Tests.{ltb-true}
 use Rattle.bits.proofs.Tests.{by-test}
 use Rattle.geometry.specs.declared.Geometry.{Geometry}
 use Rattle.geometry.specs.Accepted.{AcceptedGeometry}
@@ -20,33 +20,26 @@ use Rattle.edits.specs.Judge.{choice, chosen}
 use Rattle.edits.proofs.Kept.{All}
 use Rattle.edits.proofs.Invariant.{FitPieces, some-bits}
 use Rattle.edits.proofs.Returned.{isWhole}
-use Rattle.edits.proofs.Clusters.{add-whole}
+use Rattle.edits.proofs.Clusters.{add-whole, whole-le}
 use Rattle.edits.proofs.ClustersKept.{max-whole, last-clusters}
 use Rattle.edits.proofs.Chosen.{choice-parts, front}
 use Rattle.runs.specs.EditRules.{ClaimedBits}
 
 -- of two numbers in whole clusters the higher is higher by a cluster
-one-cluster : (k a b : ℕ) → a % k ≡ 0 → b % k ≡ 0 → a < b → a + k ≤ b
-one-cluster k a b ha hb h =
-    let p = a / k in
-    let q = b / k in
-    let ea : p * k ≡ a = omega (arith, div-add-mod' a k) in
-    let eb : q * k ≡ b = omega (arith, div-add-mod' b k) in
-    by-test (ltb p q)
-    (λ t. let le : suc p * k ≤ q * k = mul-le-mul-right k (ltb-true p q t) in omega (arith, le, suc-mul p k))
-    (λ t. let le : q * k ≤ p * k = mul-le-mul-right k (ltb-false p q t) in absurd (omega arith))
+one-cluster : (k a b : ℕ) → 0 < k → a % k ≡ 0 → b % k ≡ 0 → a < b → a + k ≤ b
+one-cluster k a b p ha hb h = whole-le k (a + k) b p (add-whole k a k ha (mod-self k)) hb (omega arith)
 
 -- what is taken of the last hole
 cut-enough : (m r n : ℕ) → r ≤ n → r ≤ cutBits m r n
 cut-enough m r n h = by-test (ltb n (max r m + m)) (λ t. simp t h) (λ t. simp t (omega arith))
 
-cut-no-more : (k m r n : ℕ) → m % k ≡ 0 → r % k ≡ 0 → n % k ≡ 0 → 0 < m → 0 < r → cutBits m r n + 2 * k ≤ r + 2 * m
-cut-no-more k m r n hm hr hn pm pr =
-    let km : k ≤ m = omega (arith, one-cluster k 0 m (zero-mod k) hm pm) in
-    let kr : k ≤ r = omega (arith, one-cluster k 0 r (zero-mod k) hr pr) in
+cut-no-more : (k m r n : ℕ) → 0 < k → m % k ≡ 0 → r % k ≡ 0 → n % k ≡ 0 → 0 < m → 0 < r → cutBits m r n + 2 * k ≤ r + 2 * m
+cut-no-more k m r n p hm hr hn pm pr =
+    let km : k ≤ m = omega (arith, one-cluster k 0 m p (zero-mod k) hm pm) in
+    let kr : k ≤ r = omega (arith, one-cluster k 0 r p (zero-mod k) hr pr) in
     let w : max r m % k ≡ 0 = max-whole k r m hr hm in
     by-test (ltb n (max r m + m))
-    (λ t. simp t (omega (arith, one-cluster k n (max r m + m) hn (add-whole k (max r m) m w hm) (ltb-true n (max r m + m) t))))
+    (λ t. simp t (omega (arith, one-cluster k n (max r m + m) p hn (add-whole k (max r m) m w hm) (ltb-true n (max r m + m) t))))
     (λ t. simp t (omega arith))
 
 -- the list has the bits of what is taken
@@ -69,5 +62,5 @@ claimed-bits g l size parent id qs ok fit w inside e =
     ∙ omega (arith, total-append (f .whole) (f .last ∷ [])) in
     record {
       enough = omega (arith, t, n, f .remains, cut-enough (g .shortest) (f .rest) (f .hole .len) (f .enough));
-      no-more = omega (arith, t, n, f .remains, cut-no-more (g .cluster) (g .shortest) (f .rest) (f .hole .len) (ok .shortest-clusters) (c .0) (c .1) (some-bits g ok) (f .some-remain));
+      no-more = omega (arith, t, n, f .remains, cut-no-more (g .cluster) (g .shortest) (f .rest) (f .hole .len) (omega (arith, ok .cluster-low)) (ok .shortest-clusters) (c .0) (c .1) (some-bits g ok) (f .some-remain));
     }

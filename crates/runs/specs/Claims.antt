@@ -72,7 +72,8 @@ pub record ClaimRules (m : List ℕ) (size parent id : ℕ) (qs : List Pair) : T
   pub none-there : (startZone (geometryOf m) id ≡ zoneOf (geometryOf m) (first .start) → ⊥)
       → (j : ℕ) → 3 ≤ j → j < (geometryOf m) .ids * (geometryOf m) .zones → startZone (geometryOf m) j ≡ zoneOf (geometryOf m) (first .start) → listedOn m j ≡ [] → ⊥
   pub lowest-of-all : (startZone (geometryOf m) id ≡ zoneOf (geometryOf m) (first .start) → ⊥) → (j : ℕ) → 3 ≤ j → j < id → listedOn m j ≡ [] → ⊥
-  -- "The answer becomes a list in object order for the chosen id": the pairs taken, in that order
+  -- "The answer becomes a list in object order for the chosen id": the pairs taken, in that order. Each has some bits, so that two
+  -- of them have one order only.
   pub same-pairs : (q : Pair) → In q qs ↔ In q taken
   pub some-bits : (q : Pair) → In q qs → 0 < q .len
   pub in-order : (q p : Pair) → Earlier q p qs → InObjectOrder (geometryOf m) (startZone (geometryOf m) id) q p

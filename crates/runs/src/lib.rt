@@ -14,7 +14,8 @@ pub fn edit_table()
     ensures { λ _. ⌜ EditTable ⌝ }
 {}
 
-// What the table does not say: 12's test is its rules, in which order a claim tries the zones, and 14 is never told.
+// What the table does not say: 12's test is its rules, in which order a claim tries the zones, how many bits it takes and in which list, and 14 is never
+// told.
 pub fn edit_rules()
     ensures { λ _. ⌜ EditRules ⌝ }
 {}

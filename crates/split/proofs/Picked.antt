@@ -122,9 +122,9 @@ later-sorted : (s : ℕ) (l : List Pair) → Later s l → Later s (bySize l)
 later-sorted s [] a = tt
 later-sorted s (x ∷ xs) a = later-insert s x (bySize xs) (a .0) (later-sorted s xs (a .1))
 
-ascends-weaken : (f g : ℕ) (l : List Pair) → f ≤ g → Ascends g l → Ascends f l
-ascends-weaken f g [] h a = tt
-ascends-weaken f g (x ∷ xs) h a = (omega (arith, a .0), a .1)
+pub ascends-weaken : (a b : ℕ) (hs : List Pair) → b ≤ a → Ascends a hs → Ascends b hs
+ascends-weaken a b [] k s = tt
+ascends-weaken a b (h ∷ hs) k s = (omega arith, s .1)
 
 -- what is taken of a hole starts where the hole does
 part-start : (m t r : ℕ) (h : Pair) → part m t r h .start ≡ h .start
@@ -137,7 +137,7 @@ ascends-picked m t r f (x ∷ xs) a =
     let ih = ascends-picked m t (restAfter t r (x .len)) (suc (x .start)) xs (a .1) in
     by-test (wanted t r (x .len))
     (λ k. simp k (omega (arith, s, a .0), subst (λ (y : ℕ). Ascends (suc y) (pickFrom m t (restAfter t r (x .len)) xs)) (sym s) ih))
-    (λ k. simp k (ascends-weaken f (suc (x .start)) (pickFrom m t (restAfter t r (x .len)) xs) (omega (arith, a .0)) ih))
+    (λ k. simp k (ascends-weaken (suc (x .start)) f (pickFrom m t (restAfter t r (x .len)) xs) (omega (arith, a .0)) ih))
 
 -- a hole that starts before all others, put in by its size or in front
 pick-insert : (m t r : ℕ) (h : Pair) (l : List Pair) → Later (h .start) l → byStart (pickFrom m t r (putBy leads h l)) ≡ byStart (pickFrom m t r (h ∷ l))
