@@ -9,7 +9,7 @@
  * length is 0), each pointer to a number is valid, and nothing that is written overlaps anything else that is handed in. There
  * is nothing else to test beforehand: any bytes and any numbers may be handed in.
  *
- * A map is the blocks of all zones, zone 0 first. Lists are pairs of 32-bit numbers: disc bit, length in map bits.
+ * A map is the blocks of all zones, zone 0 first. Lists are pairs of 32-bit numbers: disc bit, length in map bits; that of mend_positions has one number for each.
  *
  *  1  map shorter than 64 bytes, or not nzones*S;        10  id not on the map
  *     copy_over: lengths that differ                     11  id already on the map (place)
@@ -20,7 +20,7 @@
  *  5  FreeLink's top bit clear, or a link that lands     14  claim: no unused id (cannot arise)
  *     on no fragment start                               15  claim: all free bits are fewer than needed
  *  6  a fragment without room, closing bit or whole      16  start offset plus position past the object; stretch past the disc
- *     clusters                                           17  too few entries for the pairs
+ *     clusters                                           17  too few entries for the pairs or positions
  *  7  id, object 2 or disc-end rule broken
  *  8  id or internal number outside its range;
  *     address: any number on an E+ disc
@@ -43,6 +43,8 @@
  *  shoalswift_choose_copy      1024
  *  shoalswift_copy_over        1024
  *  shoalswift_copy_addresses   1024
+ *  shoalswift_mend            12288
+ *  shoalswift_mend_positions  12288
  */
 #ifndef SHOALSWIFT_H
 #define SHOALSWIFT_H
@@ -52,9 +54,9 @@
 
 /* A new major number: callers have to change. A new minor number: there is more to call. */
 #define SHOALSWIFT_VERSION_MAJOR 3
-#define SHOALSWIFT_VERSION_MINOR 0
+#define SHOALSWIFT_VERSION_MINOR 1
 #define SHOALSWIFT_VERSION_PATCH 0
-#define SHOALSWIFT_VERSION "3.0.0"
+#define SHOALSWIFT_VERSION "3.1.0"
 
 #ifdef __cplusplus
 extern "C" {
@@ -120,6 +122,16 @@ uint32_t shoalswift_copy_over(const uint8_t *source, size_t source_len, uint8_t 
 /* The disc addresses of an accepted map's two copies: *first is that of the middle zone's first map bit, *second lies straight after the
  * first copy's bytes. 1 to 7. */
 uint32_t shoalswift_copy_addresses(const uint8_t *map, size_t map_len, uint64_t *first, uint64_t *second, uint32_t *zone);
+
+/* Mends a map that is right but for zone checks, cross checks and free fragments that touch: joins the touching free fragments of each zone,
+ * sets zone 0's cross check, and no other, so that all give 255, and sets every zone check. Who holds which bits stays as it is, and so does
+ * every byte of a map that is in order. The map is then accepted, and no edit refuses it with 9. The refusal that shoalswift_check would
+ * answer with 3 and 4 ignored: 1, 2, 5, 6 or 7. */
+uint32_t shoalswift_mend(uint8_t *map, size_t map_len, uint32_t *zone);
+
+/* Writes the positions in the map, from 0 on and ascending, of the bytes that shoalswift_mend would change, an entry for each; *count is their
+ * number. As shoalswift_mend, further: 17. */
+uint32_t shoalswift_mend_positions(const uint8_t *map, size_t map_len, uint32_t *list, size_t list_len, uint64_t *count, uint32_t *zone);
 
 #ifdef __cplusplus
 }

@@ -24,9 +24,10 @@ fn answered<T: Default>(call: impl FnOnce(&mut T, &mut u32) -> u32) -> Result<T,
     Err(Refusal { reason, zone })
 }
 
-/// The same of a call that writes pairs of entries and answers how many.
-fn pairs(call: impl FnOnce(&mut u64, &mut u32) -> u32) -> Result<usize, Refusal> {
-    answered(call).map(|pairs| pairs as usize)
+/// The same of a call that writes pairs of entries, or positions, and answers how
+/// many.
+fn count(call: impl FnOnce(&mut u64, &mut u32) -> u32) -> Result<usize, Refusal> {
+    answered(call).map(|count| count as usize)
 }
 
 /// Checks a map. Refused: 1 to 7, as in every other call.
@@ -53,7 +54,7 @@ pub fn list(map: &[u8], id: u32, list: &mut [u32]) -> Result<usize, Refusal> {
     let (bytes, length) = (map.as_ptr(), map.len());
     let (room, entries) = (list.as_mut_ptr(), list.len());
     // SAFETY: the map is only read; the list is borrowed by this call alone.
-    pairs(|n, zone| unsafe { shoalswift_list(bytes, length, id, room, entries, n, zone) })
+    count(|n, zone| unsafe { shoalswift_list(bytes, length, id, room, entries, n, zone) })
 }
 
 /// Writes the free spans, ascending, a pair of entries for each free fragment,
@@ -62,7 +63,7 @@ pub fn free(map: &[u8], list: &mut [u32]) -> Result<usize, Refusal> {
     let (bytes, length) = (map.as_ptr(), map.len());
     let (room, entries) = (list.as_mut_ptr(), list.len());
     // SAFETY: the map is only read; the list is borrowed by this call alone.
-    pairs(|n, zone| unsafe { shoalswift_free(bytes, length, room, entries, n, zone) })
+    count(|n, zone| unsafe { shoalswift_free(bytes, length, room, entries, n, zone) })
 }
 
 /// Where a byte of the file with internal number `n` lies, and how many bytes
@@ -112,7 +113,7 @@ pub fn release(map: &mut [u8], id: u32, list: &mut [u32]) -> Result<usize, Refus
     let (bytes, length) = (map.as_mut_ptr(), map.len());
     let (room, entries) = (list.as_mut_ptr(), list.len());
     // SAFETY: map and list are each borrowed by this call alone.
-    pairs(|n, zone| unsafe { shoalswift_release(bytes, length, id, room, entries, n, zone) })
+    count(|n, zone| unsafe { shoalswift_release(bytes, length, id, room, entries, n, zone) })
 }
 
 /// Gives the listed pieces to an id that is not on the map. The list is read to
@@ -141,7 +142,7 @@ pub fn claim(
     let (room, entries) = (list.as_mut_ptr(), list.len());
     let mut id = 0;
     // SAFETY: map and list are each borrowed by this call alone.
-    let pairs = pairs(|n, zone| unsafe {
+    let pairs = count(|n, zone| unsafe {
         shoalswift_claim(
             bytes, length, size, parent, room, entries, &mut id, n, zone,
         )
@@ -186,5 +187,27 @@ pub fn copy_addresses(map: &[u8]) -> Result<CopyAddresses, Refusal> {
     answered(|at: &mut CopyAddresses, zone| unsafe {
         let (first, second) = (&mut at.first, &mut at.second);
         shoalswift_copy_addresses(bytes, length, first, second, zone)
+    })
+}
+
+/// Mends a map that is right but for zone checks, cross checks and free fragments
+/// that touch: joins the touching free fragments of each zone, sets zone 0's cross
+/// check so that all give 255, and sets every zone check. The map is then accepted,
+/// and no edit refuses it with 9. Refused as `check` would with 3 and 4 ignored:
+/// 1, 2, 5, 6, 7.
+pub fn mend(map: &mut [u8]) -> Result<(), Refusal> {
+    let (bytes, length) = (map.as_mut_ptr(), map.len());
+    // SAFETY: the map is borrowed by this call alone.
+    answered(|(), zone| unsafe { shoalswift_mend(bytes, length, zone) })
+}
+
+/// Writes the positions of the bytes that `mend` would change, ascending, an entry
+/// for each, and answers how many. Refused as `mend`, further: 17.
+pub fn mend_positions(map: &[u8], list: &mut [u32]) -> Result<usize, Refusal> {
+    let (bytes, length) = (map.as_ptr(), map.len());
+    let (room, entries) = (list.as_mut_ptr(), list.len());
+    // SAFETY: the map is only read; the list is borrowed by this call alone.
+    count(|n, zone| unsafe {
+        shoalswift_mend_positions(bytes, length, room, entries, n, zone)
     })
 }

@@ -111,4 +111,13 @@ extern "C" {
         second: *mut u64,
         zone: *mut u32,
     ) -> u32;
+    pub fn shoalswift_mend(map: *mut u8, map_len: usize, zone: *mut u32) -> u32;
+    pub fn shoalswift_mend_positions(
+        map: *const u8,
+        map_len: usize,
+        list: *mut u32,
+        list_len: usize,
+        count: *mut u64,
+        zone: *mut u32,
+    ) -> u32;
 }

@@ -2,7 +2,8 @@
 //! E and E+ formats.
 //!
 //! A map is one slice: the blocks of all zones, zone 0 first. Lists are pairs
-//! of entries: disc bit, then length in map bits. Any bytes and any numbers may
+//! of entries: disc bit, then length in map bits; that of `mend_positions` has
+//! one entry for each position. Any bytes and any numbers may
 //! be handed in. A refused call changes no byte of map, image or list.
 //!
 //! ```
@@ -27,8 +28,8 @@ mod declared;
 mod refusal;
 
 pub use calls::{
-    address, check, choose_copy, claim, copy_addresses, copy_over, free, geometry, list, place,
-    release, sweep_free, sweep_object,
+    address, check, choose_copy, claim, copy_addresses, copy_over, free, geometry, list, mend,
+    mend_positions, place, release, sweep_free, sweep_object,
 };
 pub use refusal::{Reason, Refusal};
 

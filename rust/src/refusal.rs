@@ -102,7 +102,7 @@ impl Reason {
             Reason::NoUnusedId => "every object number is in use",
             Reason::NoRoom => "all free space together is too little",
             Reason::PastEnd => "this lies past the end of the object or of the disc",
-            Reason::ListTooShort => "the list is too short to hold all pieces",
+            Reason::ListTooShort => "the list is too short to hold the answer",
         }
     }
 }

@@ -1,9 +1,10 @@
 -- Which empty programs the contracts shut out (document 01, "Which empty programs each statement shuts out"): no call's contract can
 -- be met by a program that refuses always, that gives one answer always or that writes nothing, nor a sweep's by one that writes
 -- everywhere. The contracts are the promises of the calls themselves. Assumes nothing.
+use mathlib.Core.Path.{_≡_}
 use mathlib.Core.List.{List, []}
 use Prim.Native.Nat.{ℕ, _≤_}
-use lib.ListN.{length, replicate}
+use lib.ListN.{length, drop, replicate}
 use Rattle.geometry.specs.declared.Refusal.{Refusal}
 use Rattle.map.specs.Checked.{Checks}
 use Rattle.map.specs.declared.Checked.{Checked}
@@ -29,6 +30,11 @@ use Rattle.copies.specs.declared.Copied.{Copied}
 use Rattle.copies.specs.declared.Copied.the-variants as copied
 use Rattle.copies.specs.declared.Located.{Located}
 use Rattle.copies.specs.declared.Located.the-variants as located
+use Rattle.mend.specs.Mends.{Mending, ListsChanges}
+use Rattle.mend.specs.declared.Mended.{Mended}
+use Rattle.mend.specs.declared.Mended.the-variants as mended
+use Rattle.mend.specs.declared.Changes.{Changes}
+use Rattle.mend.specs.declared.Changes.the-variants as changes
 
 -- a contract: of a map and what else a call is handed (H), what it answers (A) and what it leaves of what it is lent (L)
 abbrev pub Contract : Type 0 → Type 0 → Type 0 → Type 1
@@ -108,6 +114,12 @@ copiesOver source target r after = CopiesOver source target r after
 abbrev pub locates : Contract (Unit {0}) Located (Unit {0})
 locates m h r l = TellsAddresses m r
 
+abbrev pub mends : Contract (Unit {0}) Mended (List ℕ)
+mends m h r after = Mending m r after
+
+abbrev pub listsChanges : Contract (List ℕ) Changes (List ℕ)
+listsChanges m old r new = ListsChanges m old r new
+
 pub record EmptyPrograms : Type 0 where
   pub check : NoEmptyAnswer check.Refused checks
   pub list : NoEmptyAnswer listed.Refused lists
@@ -145,3 +157,10 @@ pub record EmptyPrograms : Type 0 where
   pub copy-writes-nothing : Leaves (λ source target. target) copiesOver → ⊥
   pub copy-writes-always : Leaves (λ source target. source) copiesOver → ⊥
   pub addresses : NoEmptyAnswer located.Refused locates
+  -- the mender: nothing written; a mender that leaves the bits alone and only sets check bytes; positions that are none or all
+  pub mend : NoEmptyAnswer mended.Refused mends
+  pub mend-writes-nothing : Leaves (λ m h. m) mends → ⊥
+  pub mend-keeps-bits : ((m : List ℕ) (h : Unit {0}) → (a : Mended) × (after : List ℕ) × mends m h a after × (drop 260 after ≡ drop 260 m)) → ⊥
+  pub positions : NoEmptyAnswer changes.Refused listsChanges
+  pub positions-written-never : Leaves (λ m old. old) listsChanges → ⊥
+  pub positions-of-all : ((m old : List ℕ) → (a : Changes) × (new : List ℕ) × listsChanges m old a new × (a ≡ changes.Positions (length m))) → ⊥

@@ -1,4 +1,5 @@
 pub mod Questions
 pub mod Table
+pub mod MendTable
 pub mod Empty
 pub mod Tells

@@ -9,6 +9,7 @@ use Rattle.geometry.specs.Answers.{recordOf, recordNumbers, startOf, startNumbe
 use Rattle.checks.specs.Cross.{changes}
 use Rattle.model.specs.Answer.{Answer}
 use Rattle.model.specs.Chain.{Pair}
+use Rattle.model.specs.Check.{mendRead}
 use Rattle.map.specs.Checked.{checked, checkNumbers}
 use Rattle.listing.specs.Listed.{objectFound, freeFound, listAnswer, listAfter, listNumbers}
 use Rattle.address.specs.Address.{locationFound, addressAnswer, addressNumbers}
@@ -23,6 +24,8 @@ use Rattle.claim.specs.Claimed.{claimNumbers}
 use Rattle.claim.specs.Claimed as claimed
 use Rattle.copies.specs.Copies.{copyFound, handedBack, sameBytes, choiceTold, copyJudged, targetAfter, copyAnswer, copyNumbers}
 use Rattle.copies.specs.Copies.{addressesFound, addressesAnswer, addressesNumbers}
+use Rattle.mended.specs.Mended.{mended, positionsFound}
+use Rattle.mend.specs.Mends.{mendAnswer, mendNumbers, positionsAnswer, positionsNumbers, positionsAfter}
 
 -- the calls with what they are handed: lists and images as they are lent; `counted` and `countedFree` are sweeps of so many bytes
 pub data Question : Type 0 where
@@ -41,6 +44,8 @@ pub data Question : Type 0 where
   choose : List ℕ → List ℕ → Question
   copyOver : List ℕ → List ℕ → Question
   copyAddresses : List ℕ → Question
+  mend : List ℕ → Question
+  mendPositions : List ℕ → List ℕ → Question
   -- the map after an edit
   after : List ℕ → Call → Question
   -- start zone, sizes and need of a geometry; what an edit of these zones does to their cross checks
@@ -90,6 +95,8 @@ answer (claim m size parent old) = claimedList old (outcome m (call.claim size p
 answer (choose a b) = four (choiceTold (copyFound a b) (sameBytes a b)) ++ handedBack a b
 answer (copyOver s t) = two (copyNumbers (copyAnswer (copyJudged s t))) ++ targetAfter t (copyJudged s t)
 answer (copyAddresses m) = four (addressesNumbers (addressesAnswer (addressesFound m)))
+answer (mend m) = two (mendNumbers (mendAnswer (mendRead m))) ++ mended m
+answer (mendPositions m old) = three (positionsNumbers (positionsAnswer (positionsFound m (length old)))) ++ positionsAfter old (positionsFound m (length old))
 answer (after m c) = step m c
 answer (start g id) = three (startNumbers (startOf g 1 id))
 answer (sizes g) = g .bits ∷ g .shortest ∷ g .ids ∷ g .size ∷ []

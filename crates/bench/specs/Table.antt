@@ -20,11 +20,11 @@ answered r = answer (r .question)
 abbrev pub expected : Row → List ℕ
 expected r = r .numbers
 
-abbrev row : Question → List ℕ → Row
+abbrev pub row : Question → List ℕ → Row
 row q ns = record { question = q; numbers = ns }
 
 -- a lent list of four entries
-abbrev lent : List ℕ
+abbrev pub lent : List ℕ
 lent = 9 ∷ 9 ∷ 9 ∷ 9 ∷ []
 
 -- A with object 4 placed at (24,12)
@@ -69,18 +69,18 @@ abbrev plusZones : ℕ → List (ℕ × ℕ) → Question
 plusZones low bs = plusRecord ((8, 0x13) ∷ (13, low) ∷ (14, 0x0C) ∷ (15, 0x06) ∷ bs)
 
 -- A as E+; and the same with ids of 19 bits: object 2 is (0,20), free is (20,1516)
-abbrev plusA : List ℕ
+abbrev pub plusA : List ℕ
 plusA = withBytes ((0, 0xC4) ∷ (48, 0x01) ∷ []) mapA
 
 abbrev longIds : List ℕ
 longIds = withBytes ((0, 0xB4) ∷ (1, 0x0C) ∷ (8, 0x13) ∷ (48, 0x01) ∷ (65, 0x00) ∷ (66, 0x08) ∷ []) mapA
 
 -- D with two free fragments of zone 1 that touch, (1548,12) and (1560,1992)
-abbrev touchingD : List ℕ
+abbrev pub touchingD : List ℕ
 touchingD = withBytes ((256, 0x6F) ∷ (261, 0xC8) ∷ (262, 0x80) ∷ []) mapD
 
 -- A's record with four zones and disc_size 7,766,016, object 2 in zone 2 and all else free; and with object 5 placed in all four zones
-abbrev mapF : List ℕ
+abbrev pub mapF : List ℕ
 mapF =
     withBytes
     ((0, 0x0D) ∷ (1, 0xF8) ∷ (2, 0x81) ∷ (3, 0xFF)

@@ -2,11 +2,13 @@
 -- promises themselves, so that nothing between what is found and what is told can say something else. Assumes nothing.
 use mathlib.Core.Path.{_≡_}
 use mathlib.Core.List.{List, [], _++_}
-use Prim.Native.Nat.{ℕ, _*_}
-use lib.ListN.{length, take, drop}
+use mathlib.Core.Logic.{_↔_}
+use Prim.Native.Nat.{ℕ, _*_, _<_}
+use lib.ListN.{length, getD, take, drop}
+use Rattle.bits.specs.Bits.{Bytes}
 use Rattle.model.specs.Answer.{Answer, refused, answered}
 use Rattle.model.specs.Chain.{Pair, Entry, numbersOf}
-use Rattle.model.specs.Check.{mapRead}
+use Rattle.model.specs.Check.{mapRead, mendRead}
 use Rattle.map.specs.Checked.{Checks, checkNumbers}
 use Rattle.map.specs.declared.Checked.{Checked}
 use Rattle.listing.specs.Listed.{Lists, listNumbers}
@@ -20,6 +22,7 @@ use Rattle.edits.specs.Edits.{Edit, takes, gives}
 use Rattle.edits.specs.Judge.{release, place, claim}
 use Rattle.edits.specs.Steps.{outcome}
 use Rattle.edits.specs.Editable.{Editable}
+use Rattle.edits.specs.Room.{In}
 use Rattle.release.specs.Released.{Releases}
 use Rattle.place.specs.Placed.{Places, placeNumbers}
 use Rattle.place.specs.declared.Placed.{Placed}
@@ -29,6 +32,10 @@ use Rattle.copies.specs.Copies.{first, second, copyFound, Chooses, copyJudged, 
 use Rattle.copies.specs.declared.Copied.{Copied}
 use Rattle.copies.specs.declared.Addresses.{Addresses}
 use Rattle.copies.specs.declared.Located.{Located}
+use Rattle.mended.specs.Mended.{positionsFound}
+use Rattle.mend.specs.Mends.{mendNumbers, Mending, positionsNumbers, ListsChanges}
+use Rattle.mend.specs.declared.Mended.{Mended}
+use Rattle.mend.specs.declared.Changes.{Changes}
 
 -- check
 pub record CheckTells (m : List ℕ) (r : Checked) : Type 0 where
@@ -82,6 +89,15 @@ pub record AddressesTells (found : Answer Addresses) (r : Located) : Type 0 wher
   pub refused-told : (n z : ℕ) → found ≡ refused n z → addressesNumbers r ≡ (n, z, 0, 0)
   pub accepted-told : (l : Addresses) → found ≡ answered l → addressesNumbers r ≡ (0, 0, l .first, l .second)
 
+-- the mender and its positions: "one 32-bit number each"
+pub record MendTells (m : List ℕ) (r : Mended) (after : List ℕ) : Type 0 where
+  pub refused-told : (n z : ℕ) → mendRead m ≡ refused n z → (mendNumbers r ≡ (n, z)) × (after ≡ m)
+  pub accepted-told : (ess : List (List Entry)) → mendRead m ≡ answered ess → mendNumbers r ≡ (0, 0)
+
+pub record PositionsTells (found : Answer (List ℕ)) (old : List ℕ) (r : Changes) (new : List ℕ) : Type 0 where
+  pub refused-told : (n z : ℕ) → found ≡ refused n z → (positionsNumbers r ≡ (n, z, 0)) × (new ≡ old)
+  pub accepted-told : (ps : List ℕ) → found ≡ answered ps → (positionsNumbers r ≡ (0, 0, length ps)) × (new ≡ ps ++ drop (length ps) old)
+
 pub record AnswersTold : Type 0 where
   pub checks : (m : List ℕ) (r : Checked) → Checks m r → CheckTells m r
   pub lists : (found : Answer (List Pair)) (old : List ℕ) (r : Listed) (new : List ℕ) → Lists found old r new → ListTells found old r new
@@ -94,6 +110,13 @@ pub record AnswersTold : Type 0 where
   pub chooses : (a b : List ℕ) (told : ℕ × ℕ × ℕ × ℕ) (handed : List ℕ) → Chooses a b told handed → ChoiceTells a b told handed
   pub copies : (source target : List ℕ) (r : Copied) (after : List ℕ) → CopiesOver source target r after → CopyTells source target r after
   pub locates : (m : List ℕ) (r : Located) → TellsAddresses m r → AddressesTells (addressesFound m) r
+  pub mends : (m : List ℕ) (r : Mended) (after : List ℕ) → Mending m r after → MendTells m r after
+  pub positions : (m old : List ℕ) (r : Changes) (new : List ℕ) → ListsChanges m old r new → PositionsTells (positionsFound m (length old)) old r new
+  -- "exactly the byte positions the mender would change": of the promises of both calls on one map, what the second left in the list, cut to its
+  -- number, are the positions at which the first left another byte
+  pub listed-changed : (m old : List ℕ) (r : Changes) (new : List ℕ) → ListsChanges m old r new → (ps : List ℕ) → positionsFound m (length old) ≡ answered ps
+      → (s : Mended) (after : List ℕ) → Mending m s after → Bytes m
+      → (i : ℕ) → In i (take (length ps) new) ↔ ((i < length m) × (getD m i 0 ≡ getD after i 0 → ⊥))
   -- demand 3: "Release an ordinary object, with room for its list, and at once place the returned list under its number: both are accepted
   -- and every byte is as before, check bytes too." Of the promises: the list that the release left, cut to its pairs, is placed.
   pub returned-placed : (m : List ℕ) → Editable m → (id : ℕ) (old : List ℕ) (r : Listed) (after new : List ℕ) → Releases m id old r after new

@@ -4,12 +4,18 @@
 ghost use mathlib.Core.Path.{_≡_};
 ghost use mathlib.Core.List.{map};
 ghost use Rattle.bench.specs.Table.{table, answered, expected};
+ghost use Rattle.bench.specs.MendTable.{mendTable};
 ghost use Rattle.bench.specs.Empty.{EmptyPrograms};
 ghost use Rattle.bench.specs.Tells.{AnswersTold};
 
 // Every row of the table is answered as document 01 has it, as a contract: the function does nothing.
 pub fn bench_examples()
     ensures { λ _. ⌜ map answered table ≡ map expected table ⌝ }
+{}
+
+// Maps that are mended, and those that are not, in rows of our own (specs/MendTable): as a contract, the function does nothing.
+pub fn mend_examples()
+    ensures { λ _. ⌜ map answered mendTable ≡ map expected mendTable ⌝ }
 {}
 
 // No empty program meets the contracts, as a contract: the function does nothing.

@@ -22,6 +22,8 @@ use Rattle.model.specs.Answer.{answered}
 use Rattle.model.specs.Check.{zonesRead, blocksOf, mapRead}
 use Rattle.model.proofs.ChainDrawn.{Lies}
 use Rattle.model.proofs.ZoneTests.{zone-tests}
+use Rattle.model.proofs.LinesJudged.{same-answer}
+use Rattle.model.proofs.MapTests.{read-tests, accepted-tests}
 use Rattle.edits.specs.Edits.{inZone}
 use Rattle.edits.specs.Holes.{hole, holes, holesIn, holesFrom}
 use Rattle.edits.proofs.Kept.{all-append}
@@ -29,7 +31,7 @@ use Rattle.edits.proofs.Slices.{Sized, sized-blocks, length-blocks}
 use Rattle.edits.proofs.ZonePlaces.{zoneOfPiece, zone-from, zone-end, zone-low, zone-bits, disc-zone}
 use Rattle.edits.proofs.Gathered.{all-map, FromZone, in-zone-part, later-part}
 use Rattle.edits.proofs.ZoneFound.{drawn-zone}
-use Rattle.edits.proofs.MapAccepted.{same-answer, zone-and-rest, apart-and-rest, map-tests}
+use Rattle.edits.proofs.MapAccepted.{zone-and-rest, apart-and-rest}
 
 -- the gaps of a drawing are its free fragments
 free-gap : (at end : ℕ) (es : List Entry) → freeOf (gapEntry at end es) ≡ hole at end (freeOf es)
@@ -129,7 +131,7 @@ module _ (m : List ℕ) (ess : List (List Entry)) (e : mapRead m ≡ answered es
 
   drawn : AcceptedGeometry (geometryOf m) × ZonesDrawn (geometryOf m) 0 ess × (length ess ≡ (geometryOf m) .zones)
   drawn =
-      let k = map-tests m ess e in
+      let k = read-tests m ess (accepted-tests m ess e .read) in
       let ok = test-gives-accepted (discRecord m) (k .record-fits) in
       let d = zones-drawn g ok 0 0 (blocksOf g m) ess (sized-blocks (g .sector) (g .zones) m (k .whole)) (k .zones) t in
       (ok, d .0, d .1 ∙ length-blocks (g .sector) (g .zones) m)

@@ -21,6 +21,7 @@ pub mod Spaced
 pub mod Returned
 pub mod BlockBits
 pub mod BlockWritten
+pub mod BlockKept
 pub mod Slices
 pub mod ZonePlaces
 pub mod Gathered

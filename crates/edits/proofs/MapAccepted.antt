@@ -1,11 +1,11 @@
 -- An accepted map: its pieces and cross checks are accepted ones, and where no two free fragments touch it is what is written from them. The check is taken apart into its tests, and those of the zones into what each zone is found to be.
 use mathlib.Core.Path.{_≡_, refl, sym, ap, _∙_, subst, subst⁻¹}
-use mathlib.Core.Bool.{Bool, true, false}
+use mathlib.Core.Bool.{true, false}
 use mathlib.Core.List.{List, [], _∷_}
-use mathlib.Core.Option.{Option, none, some}
-use Prim.Native.Nat.{ℕ, suc, _*_}
+use mathlib.Core.Option.{none}
+use Prim.Native.Nat.{ℕ, suc}
 use native.Mathlib.Omega.{arith}
-use lib.Dec.{eqb, leb}
+use lib.Dec.{eqb}
 use lib.ListN.{length, getD, length-map}
 use borrow.Author.Tests.{eqb-true}
 use Rattle.bits.specs.Bits.{Bytes}
@@ -14,28 +14,24 @@ use Rattle.checks.specs.Words.{zoneCheck}
 use Rattle.checks.specs.Cross.{crossOf}
 use Rattle.geometry.specs.declared.Geometry.{Geometry}
 use Rattle.geometry.specs.Record.{discRecord, geometryOf}
-use Rattle.geometry.specs.Ranges.{recordFits}
 use Rattle.geometry.specs.Accepted.{AcceptedGeometry}
 use Rattle.geometry.proofs.Numbers.{test-gives-accepted}
 use Rattle.model.specs.Chain.{Entry, noneTouch, touching}
 use Rattle.model.specs.Blocks.{flat}
 use Rattle.model.specs.Pieces.{piecesOfZones}
-use Rattle.model.specs.Answer.{unless, Answer, refused, answered}
-use Rattle.model.specs.Check.{joinZone, zoneRead, zonesRead, differing, crossSum, afterChecks, blocksRead, blocksOf, lengthFits, mapRead}
+use Rattle.model.specs.Answer.{Answer, refused, answered}
+use Rattle.model.specs.Check.{joinZone, zoneRead, zonesRead, differing, blocksOf, mapRead, mendRead}
 use Rattle.model.proofs.Options.{none-some}
+use Rattle.model.proofs.LinesJudged.{not-answered, same-answer}
+use Rattle.model.proofs.MapTests.{ReadTests, read-tests, AcceptedTests, accepted-tests}
 use Rattle.edits.specs.Steps.{discOf}
 use Rattle.edits.proofs.Slices.{Sized, EachBytes, flat-blocks, sized-blocks, length-blocks, each-bytes}
 use Rattle.edits.proofs.ZoneFound.{pieces-read, zone-found}
 use Rattle.edits.proofs.MapFound.{ZonesPieces, ZonesFound, zone-pieces, pieces-found, as-read}
 use Rattle.edits.proofs.BytesKept.{crosses-of-bytes}
+use Rattle.edits.proofs.PiecesKept.{AcceptedPieces}
 use Rattle.edits.proofs.DiscKept.{AcceptedDisc}
 use Rattle.edits.proofs.StepWritten.{MapOf, writtenMap}
-
-not-answered : {n z : ℕ} {ess : List (List Entry)} → refused n z ≡ answered ess → ⊥
-not-answered e = let z : _≡_ {A = ℕ} 0 1 = cc in omega arith
-
-pub same-answer : {ds es : List (List Entry)} → answered ds ≡ answered es → ds ≡ es
-same-answer e = cc
 
 -- a zone and those after it: each was read, and in none do two free fragments touch
 pub zone-and-rest : (g : Geometry) (z : ℕ) (b : List ℕ) (bs : List (List ℕ)) (ess : List (List Entry)) → zonesRead g z (b ∷ bs) ≡ answered ess
@@ -75,79 +71,77 @@ module _ (g : Geometry) (ok : AcceptedGeometry g) where
           (λ h. (eqb-true (getD b 0 0) (zoneCheck b) h, simp h at c))
           (λ h. absurd (none-some (sym (simp h at c))))
 
--- the check of the whole map, test by test
-pub record MapTests (m : List ℕ) (ess : List (List Entry)) : Type 0 where
-  pub record-fits : recordFits (discRecord m) ≡ true
-  pub whole : length m ≡ (geometryOf m) .zones * (geometryOf m) .sector
-  pub checks : differing 0 (blocksOf (geometryOf m) m) ≡ none
-  pub sum : crossSum (blocksOf (geometryOf m) m) ≡ 255
-  pub zones : zonesRead (geometryOf m) 0 (blocksOf (geometryOf m) m) ≡ answered ess
+-- a map as the mender reads it: its pieces are accepted ones
+module _ (m : List ℕ) (ess : List (List Entry)) (bytes : Bytes m) (read : mendRead m ≡ answered ess) where
+  read-as : ReadTests m ess
+  read-as = read-tests m ess read
 
-if-passed : (b : Bool) (n : ℕ) (r : Answer (List (List Entry))) (ess : List (List Entry)) → unless b n r ≡ answered ess → (b ≡ true) × (r ≡ answered ess)
-if-passed true n r ess e = (refl, e)
-if-passed false n r ess e = absurd (not-answered e)
+  pub read-geometry : AcceptedGeometry (geometryOf m)
+  read-geometry = test-gives-accepted (discRecord m) (read-as .record-fits)
 
-if-checked : (o : Option ℕ) (r : Answer (List (List Entry))) (ess : List (List Entry)) → afterChecks o r ≡ answered ess → (o ≡ none) × (r ≡ answered ess)
-if-checked none r ess e = (refl, e)
-if-checked (some z) r ess e = absurd (not-answered e)
+  pub read-each-bytes : EachBytes (blocksOf (geometryOf m) m)
+  read-each-bytes =
+      let g = geometryOf m in
+      each-bytes (blocksOf g m) (subst⁻¹ Bytes (flat-blocks (g .sector) (g .zones) m (read-as .whole)) bytes)
 
-pub map-tests : (m : List ℕ) (ess : List (List Entry)) → mapRead m ≡ answered ess → MapTests m ess
-map-tests m ess e =
-    let g = geometryOf m in
-    let bs = blocksOf g m in
-    let a = if-passed (leb 64 (length m)) 1 (unless (recordFits (discRecord m)) 2 (unless (lengthFits g m) 1 (blocksRead g bs))) ess e in
-    let b = if-passed (recordFits (discRecord m)) 2 (unless (lengthFits g m) 1 (blocksRead g bs)) ess (a .1) in
-    let c = if-passed (lengthFits g m) 1 (blocksRead g bs) ess (b .1) in
-    let d = if-checked (differing 0 bs) (unless (eqb (crossSum bs) 255) 4 (zonesRead g 0 bs)) ess (c .1) in
-    let f = if-passed (eqb (crossSum bs) 255) 4 (zonesRead g 0 bs) ess (d .1) in
-    record { record-fits = b .0; whole = eqb-true (length m) (g .zones * g .sector) (c .0); checks = d .0; sum = eqb-true (crossSum bs) 255 (f .0); zones = f .1 }
+  pub read-of : MapOf (geometryOf m) m
+  read-of = record { geometry = refl; record-fits = read-as .record-fits; accepted = read-geometry; whole = read-as .whole; bytes = bytes }
 
+  read-zones : ZonesPieces (geometryOf m) 0 ess × (length ess ≡ length (blocksOf (geometryOf m) m))
+  read-zones =
+      let g = geometryOf m in
+      zones-pieces g read-geometry 0 (blocksOf g m) ess (sized-blocks (g .sector) (g .zones) m (read-as .whole)) (read-as .zones)
+
+  pub read-count : length ess ≡ (geometryOf m) .zones
+  read-count = let g = geometryOf m in read-zones .1 ∙ length-blocks (g .sector) (g .zones) m
+
+  pub read-pieces-found : ZonesPieces (geometryOf m) 0 ess
+  read-pieces-found = read-zones .0
+
+  pub read-pieces : AcceptedPieces (geometryOf m) (piecesOfZones (geometryOf m) 0 ess)
+  read-pieces = pieces-found (geometryOf m) read-geometry ess read-count read-pieces-found
+
+-- and one that the check accepts: its cross checks are accepted ones too
 module _ (m : List ℕ) (ess : List (List Entry)) (bytes : Bytes m) (accepted : mapRead m ≡ answered ess) where
-  tests : MapTests m ess
-  tests = map-tests m ess accepted
+  tests : AcceptedTests m ess
+  tests = accepted-tests m ess accepted
 
   pub map-geometry : AcceptedGeometry (geometryOf m)
-  map-geometry = test-gives-accepted (discRecord m) (tests .record-fits)
-
-  map-each-bytes : EachBytes (blocksOf (geometryOf m) m)
-  map-each-bytes =
-      let g = geometryOf m in
-      each-bytes (blocksOf g m) (subst⁻¹ Bytes (flat-blocks (g .sector) (g .zones) m (tests .whole)) bytes)
+  map-geometry = read-geometry m ess bytes (tests .read)
 
   pub map-of : MapOf (geometryOf m) m
-  map-of = record { geometry = refl; record-fits = tests .record-fits; accepted = map-geometry; whole = tests .whole; bytes = bytes }
-
-  map-zones : ZonesPieces (geometryOf m) 0 ess × (length ess ≡ length (blocksOf (geometryOf m) m))
-  map-zones =
-      let g = geometryOf m in
-      zones-pieces g map-geometry 0 (blocksOf g m) ess (sized-blocks (g .sector) (g .zones) m (tests .whole)) (tests .zones)
+  map-of = read-of m ess bytes (tests .read)
 
   pub map-count : length ess ≡ (geometryOf m) .zones
-  map-count = let g = geometryOf m in map-zones .1 ∙ length-blocks (g .sector) (g .zones) m
+  map-count = read-count m ess bytes (tests .read)
 
   pub map-pieces-found : ZonesPieces (geometryOf m) 0 ess
-  map-pieces-found = map-zones .0
+  map-pieces-found = read-pieces-found m ess bytes (tests .read)
 
   pub map-disc : AcceptedDisc (geometryOf m) (discOf m ess)
   map-disc =
       let g = geometryOf m in
       record {
-        pieces = pieces-found g map-geometry ess map-count map-pieces-found;
+        pieces = read-pieces m ess bytes (tests .read);
         count = length-map (blocksOf g m) crossOf ∙ length-blocks (g .sector) (g .zones) m;
         sum = tests .sum;
-        bytes = crosses-of-bytes (blocksOf g m) map-each-bytes;
+        bytes = crosses-of-bytes (blocksOf g m) (read-each-bytes m ess bytes (tests .read));
       }
 
   module _ (apart : touching 0 ess ≡ none) where
+    also-read : ReadTests m ess
+    also-read = read-tests m ess (tests .read)
+
     pub map-found : ZonesFound (geometryOf m) 0 (blocksOf (geometryOf m) m) ess
     map-found =
         let g = geometryOf m in
-        zones-found g map-geometry 0 0 0 (blocksOf g m) ess (sized-blocks (g .sector) (g .zones) m (tests .whole)) map-each-bytes
-        (tests .checks) (tests .zones) apart
+        zones-found g map-geometry 0 0 0 (blocksOf g m) ess (sized-blocks (g .sector) (g .zones) m (also-read .whole)) (read-each-bytes m ess bytes (tests .read))
+        (tests .checks) (also-read .zones) apart
 
     -- it is as it would be written
     pub map-as-written : writtenMap (geometryOf m) m (discOf m ess) ≡ m
     map-as-written =
         let g = geometryOf m in
-        ap flat (as-read g map-geometry (piecesOfZones g 0 ess) 0 (blocksOf g m) ess map-found (λ i h. zone-pieces g 0 ess map-pieces-found i (omega (arith, map-zones .1))))
-        ∙ flat-blocks (g .sector) (g .zones) m (tests .whole)
+        ap flat (as-read g map-geometry (piecesOfZones g 0 ess) 0 (blocksOf g m) ess map-found
+        (λ i h. zone-pieces g 0 ess map-pieces-found i (omega (arith, map-count, length-blocks (g .sector) (g .zones) m))))
+        ∙ flat-blocks (g .sector) (g .zones) m (also-read .whole)

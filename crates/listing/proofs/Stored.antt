@@ -4,7 +4,7 @@ use mathlib.Core.Path.{_≡_, refl, sym, ap, _∙_}
 use mathlib.Core.Bool.{Bool, true, false, cond, false≢true}
 use mathlib.Core.List.{List, [], _∷_, _++_}
 use Prim.Native.Nat.{ℕ, suc, _+_, _*_, _≤_}
-use native.Mathlib.Nat.{add-zero}
+use native.Mathlib.Nat.{add-zero, zero-add}
 use native.Mathlib.Numerals.{add-one}
 use native.Mathlib.Omega.{arith}
 use lib.ListN.{length, drop, set, length-append}
@@ -14,7 +14,7 @@ use Rattle.model.proofs.Lists.{length-numbers, numbers-append}
 use Rattle.walk.specs.HeldBy.{pairIf}
 
 -- stored in one run, or in two
-sets-append : (xs ys l : List ℕ) (i : ℕ) → sets l i (xs ++ ys) ≡ sets (sets l i xs) (i + length xs) ys
+pub sets-append : (xs ys l : List ℕ) (i : ℕ) → sets l i (xs ++ ys) ≡ sets (sets l i xs) (i + length xs) ys
 sets-append [] ys l i = ap (λ (k : ℕ). sets l k ys) (sym (add-zero i))
 sets-append (x ∷ xs) ys l i =
     let e : suc i + length xs ≡ i + suc (length xs) = omega arith in
@@ -26,11 +26,12 @@ stored-append ps qs l i =
     ap (sets l i) (numbers-append ps qs) ∙ sets-append (numbersOf ps) (numbersOf qs) l i
     ∙ ap (λ (k : ℕ). sets (sets l i (numbersOf ps)) (i + k) (numbersOf qs)) (length-numbers ps)
 
--- pairs stored from the first entry on: the entries past the last pair are untouched
+-- numbers stored from the first entry on, and pairs: the entries past the last are untouched
+pub stored-front : (ns l : List ℕ) → length ns ≤ length l → sets l 0 ns ≡ ns ++ drop (length ns) l
+stored-front ns l h = sets-eq ns l 0 (omega arith) ∙ ap (λ (k : ℕ). ns ++ drop k l) (zero-add (length ns))
+
 pub stored-first : (qs : List Pair) (l : List ℕ) → 2 * length qs ≤ length l → sets l 0 (numbersOf qs) ≡ numbersOf qs ++ drop (2 * length qs) l
-stored-first qs l h =
-    let e : 0 + length (numbersOf qs) ≡ 2 * length qs = omega (arith, length-numbers qs) in
-    sets-eq (numbersOf qs) l 0 (omega arith) ∙ ap (λ (k : ℕ). numbersOf qs ++ drop k l) e
+stored-first qs l h = stored-front (numbersOf qs) l (omega (arith, length-numbers qs)) ∙ ap (λ (k : ℕ). numbersOf qs ++ drop k l) (length-numbers qs)
 
 -- one pair stored if it is wanted
 pub wanted-room : (b : Bool) (at n : ℕ) → b ≡ true → at + cond b 2 0 ≤ n → at + 2 ≤ n

@@ -1,57 +1,33 @@
 -- An accepted map: its record, its length and its zones hold, and each zone in turn is read, with the entries that the check read.
 -- The answer is taken apart test by test, since a refusal is no acceptance.
 use mathlib.Core.Path.{_≡_, refl, sym, ap, _∙_, subst, subst⁻¹}
-use mathlib.Core.Bool.{Bool, true, false, cond}
 use mathlib.Core.List.{List, [], _∷_, cons≢nil}
-use mathlib.Core.Option.{Option, none, some}
-use Prim.Native.Nat.{ℕ, zero, suc, _+_, _*_, _<_, _≤_}
+use Prim.Native.Nat.{ℕ, zero, suc, _+_, _<_, _≤_}
 use native.Mathlib.Omega.{arith}
-use lib.Dec.{eqb, ltb, leb}
-use lib.ListN.{length, getD}
-use borrow.Author.Tests.{eqb-true, ltb-true, ltb-false}
+use lib.Dec.{ltb}
+use lib.ListN.{getD}
+use borrow.Author.Tests.{ltb-true, ltb-false}
 use Rattle.bits.proofs.Tests.{by-test}
 use Rattle.geometry.specs.declared.Geometry.{Geometry}
 use Rattle.geometry.specs.Record.{discRecord, geometryOf}
-use Rattle.geometry.specs.Ranges.{recordFits}
 use Rattle.geometry.proofs.Numbers.{test-gives-accepted}
 use Rattle.model.specs.Chain.{Entry}
 use Rattle.model.specs.Blocks.{blockAt}
 use Rattle.model.specs.Rules.{zoneBlock}
-use Rattle.model.specs.Answer.{Answer, refused, answered, unless}
-use Rattle.model.specs.Check.{zoneRead, joinZone, zonesRead, differing, crossSum, afterChecks, blocksRead, blocksOf, lengthFits, mapRead}
-use Rattle.map.specs.Checked.{checkAnswer, checked}
-use Rattle.map.specs.Accepted.{AcceptedMap}
+use Rattle.model.specs.Answer.{Answer, refused, answered}
+use Rattle.model.specs.Check.{zoneRead, joinZone, zonesRead, blocksOf, mapRead, mendRead}
+use Rattle.map.specs.Checked.{checkAnswer, checked, mendChecked}
+use Rattle.map.specs.Accepted.{ReadableFrom, AcceptedMap, MendableMap}
 use Rattle.map.specs.declared.Checked.the-variants.{Accepted}
+use Rattle.model.proofs.LinesJudged.{not-answered}
+use Rattle.model.proofs.MapTests.{read-tests, accepted-tests}
 use Rattle.model.proofs.ByPlace.{restFrom, rest-cons, rest-none, rest-all}
 use Rattle.zone.specs.Lines.{entriesIn, IsRead}
 use Rattle.zone.proofs.EntriesRead.{is-read}
 
-pub not-answered : {n i : ℕ} {ess : List (List Entry)} → refused n i ≡ answered ess → ⊥
-not-answered e = let x : _≡_ {A = ℕ} 0 1 = cc in omega arith
-
 answer-parts : (g k : Geometry) (r : Answer (List (List Entry))) → checkAnswer g r ≡ Accepted k → (ess : List (List Entry)) × (r ≡ answered ess) × (g ≡ k)
 answer-parts g k (refused n i) e = let x : _≡_ {A = ℕ} 0 1 = cc in absurd (omega arith)
 answer-parts g k (answered ess) e = (ess, refl, cc)
-
-blocks-parts : (g : Geometry) (bs : List (List ℕ)) (ess : List (List Entry)) → blocksRead g bs ≡ answered ess → zonesRead g 0 bs ≡ answered ess
-blocks-parts g bs ess e = go (differing 0 bs) (eqb (crossSum bs) 255) e
-  where
-    go : (o : Option ℕ) (b : Bool) → afterChecks o (cond b (zonesRead g 0 bs) (refused 4 0)) ≡ answered ess → zonesRead g 0 bs ≡ answered ess
-    go none true e = e
-    go none false e = absurd (not-answered e)
-    go (some z) b e = absurd (not-answered e)
-
-map-parts : (m : List ℕ) (ess : List (List Entry)) → mapRead m ≡ answered ess
-    → (recordFits (discRecord m) ≡ true) × (length m ≡ (geometryOf m) .zones * (geometryOf m) .sector) × (zonesRead (geometryOf m) 0 (blocksOf (geometryOf m) m) ≡ answered ess)
-map-parts m ess e = go (leb 64 (length m)) (recordFits (discRecord m)) (lengthFits (geometryOf m) m) refl refl e
-  where
-    go : (b1 b2 b3 : Bool) → recordFits (discRecord m) ≡ b2 → lengthFits (geometryOf m) m ≡ b3
-        → unless b1 1 (unless b2 2 (unless b3 1 (blocksRead (geometryOf m) (blocksOf (geometryOf m) m)))) ≡ answered ess
-        → (recordFits (discRecord m) ≡ true) × (length m ≡ (geometryOf m) .zones * (geometryOf m) .sector) × (zonesRead (geometryOf m) 0 (blocksOf (geometryOf m) m) ≡ answered ess)
-    go false b2 b3 p q e = absurd (not-answered e)
-    go true false b3 p q e = absurd (not-answered e)
-    go true true false p q e = absurd (not-answered e)
-    go true true true p q e = (p, eqb-true (length m) ((geometryOf m) .zones * (geometryOf m) .sector) q, blocks-parts (geometryOf m) (blocksOf (geometryOf m) m) ess e)
 
 -- the zones walked: each is read, and what is left of the map's entries are those of the zones to come
 join-parts : (r : Answer (List Entry)) (q : Answer (List (List Entry))) (ess : List (List Entry)) → joinZone r q ≡ answered ess
@@ -109,28 +85,34 @@ module _ (m : List ℕ) (g : Geometry) where
       (λ t. read-at (suc z) ess (r .2) i (ltb-true z i t) h)
       (λ t. let e : z ≡ i = omega (arith, ltb-false) in subst (λ (x : ℕ). IsRead g x (zoneBlock g m x)) e (is-read g z (zoneBlock g m z) es (r .1) .1))
 
+readable : (m : List ℕ) (ess : List (List Entry)) → mendRead m ≡ answered ess → ReadableFrom m (geometryOf m) 0
+readable m ess e =
+    let k = read-tests m ess e in
+    let turn = in-turn m (geometryOf m) 0 ess (omega arith) (from-start m (geometryOf m) ess (k .zones)) in
+    record {
+      numbers = test-gives-accepted (discRecord m) (k .record-fits);
+      sized = k .whole;
+      reads = λ z l h. read-at m (geometryOf m) 0 ess turn z l h;
+    }
+
 pub accepts : (m : List ℕ) (g : Geometry) → checked m ≡ Accepted g → AcceptedMap m g
 accepts m g e =
     let t = answer-parts (geometryOf m) g (mapRead m) e in
-    let k = map-parts m (t .0) (t .1) in
-    let turn = in-turn m (geometryOf m) 0 (t .0) (omega arith) (from-start m (geometryOf m) (t .0) (k .2)) in
-    subst (λ (x : Geometry). AcceptedMap m x) (t .2)
-    (record {
-      geometry = refl;
-      readable = record {
-        numbers = test-gives-accepted (discRecord m) (k .0);
-        sized = k .1;
-        reads = λ z l h. read-at m (geometryOf m) 0 (t .0) turn z l h;
-      };
-      zones = t .0;
-      read = t .1;
-    })
+    subst (AcceptedMap m) (t .2) (record { geometry = refl; readable = readable m (t .0) (accepted-tests m (t .0) (t .1) .read); zones = t .0; read = t .1 })
 
-module _ {m : List ℕ} {g : Geometry} (a : AcceptedMap m g) where
-  pub zones-in-turn : ReadInTurn m g 0 (a .zones)
-  zones-in-turn =
-      let f = a .geometry in
-      let k : zonesRead g 0 (blocksOf g m) ≡ answered (a .zones) = subst⁻¹ (λ (x : Geometry). zonesRead x 0 (blocksOf x m) ≡ answered (a .zones)) f (map-parts m (a .zones) (a .read) .2) in
+pub mendable : (m : List ℕ) (g : Geometry) → mendChecked m ≡ Accepted g → MendableMap m g
+mendable m g e =
+    let t = answer-parts (geometryOf m) g (mendRead m) e in
+    subst (MendableMap m) (t .2) (record { geometry = refl; readable = readable m (t .0) (t .1); zones = t .0; read = t .1 })
+
+-- an accepted map is one that the mender mends
+abbrev pub accepted-mends : {m : List ℕ} {g : Geometry} → AcceptedMap m g → MendableMap m g
+accepted-mends {m} a = record { geometry = a .geometry; readable = a .readable; zones = a .zones; read = accepted-tests m (a .zones) (a .read) .read }
+
+module _ {m : List ℕ} {g : Geometry} (a : MendableMap m g) where
+  mendable-in-turn : ReadInTurn m g 0 (a .zones)
+  mendable-in-turn =
+      let k : zonesRead g 0 (blocksOf g m) ≡ answered (a .zones) = subst⁻¹ (λ (x : Geometry). zonesRead x 0 (blocksOf x m) ≡ answered (a .zones)) (a .geometry) (read-tests m (a .zones) (a .read) .zones) in
       in-turn m g 0 (a .zones) (omega arith) (from-start m g (a .zones) k)
 
   entries-from : (z : ℕ) (ess : List (List Entry)) → ReadInTurn m g z ess → (i : ℕ) → z + i < g .zones → entriesIn g (z + i) (zoneBlock g m (z + i)) ≡ getD ess i []
@@ -142,7 +124,14 @@ module _ {m : List ℕ} {g : Geometry} (a : AcceptedMap m g) where
       let e : z + suc i ≡ suc z + i = omega arith in
       ap (λ (x : ℕ). entriesIn g x (zoneBlock g m x)) e ∙ entries-from (suc z) ess (r .2) i (omega arith)
 
-  pub zone-entries : (z : ℕ) → z < g .zones → entriesIn g z (zoneBlock g m z) ≡ getD (a .zones) z []
-  zone-entries z h =
+  pub mendable-entries : (z : ℕ) → z < g .zones → entriesIn g z (zoneBlock g m z) ≡ getD (a .zones) z []
+  mendable-entries z h =
       let e : z ≡ 0 + z = omega arith in
-      ap (λ (x : ℕ). entriesIn g x (zoneBlock g m x)) e ∙ entries-from 0 (a .zones) zones-in-turn z (omega arith)
+      ap (λ (x : ℕ). entriesIn g x (zoneBlock g m x)) e ∙ entries-from 0 (a .zones) mendable-in-turn z (omega arith)
+
+module _ {m : List ℕ} {g : Geometry} (a : AcceptedMap m g) where
+  pub zones-in-turn : ReadInTurn m g 0 (a .zones)
+  zones-in-turn = mendable-in-turn (accepted-mends a)
+
+  pub zone-entries : (z : ℕ) → z < g .zones → entriesIn g z (zoneBlock g m z) ≡ getD (a .zones) z []
+  zone-entries = mendable-entries (accepted-mends a)

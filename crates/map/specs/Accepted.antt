@@ -9,7 +9,7 @@ use Rattle.geometry.specs.Accepted.{AcceptedGeometry}
 use Rattle.model.specs.Chain.{Entry}
 use Rattle.model.specs.Rules.{zoneBlock}
 use Rattle.model.specs.Answer.{answered}
-use Rattle.model.specs.Check.{mapRead}
+use Rattle.model.specs.Check.{mapRead, mendRead}
 use Rattle.zone.specs.Lines.{IsRead}
 
 -- The zones from `from` on keep the rules of 6, 5 and 7: what a walk over them and the drawing of one needs. Zone checks, cross checks
@@ -25,3 +25,10 @@ pub record AcceptedMap (m : List ℕ) (g : Geometry) : Type 0 where
   pub readable : ReadableFrom m g 0
   pub zones : List (List Entry)
   pub read : mapRead m ≡ answered zones
+
+-- a map that the mender mends: right but for checks and for free fragments that touch (document 02, R-9)
+pub record MendableMap (m : List ℕ) (g : Geometry) : Type 0 where
+  pub geometry : g ≡ geometryOf m
+  pub readable : ReadableFrom m g 0
+  pub zones : List (List Entry)
+  pub read : mendRead m ≡ answered zones

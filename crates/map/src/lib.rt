@@ -11,8 +11,8 @@ ghost use lib.ListN.{length, getD};
 ghost use Rattle.checks.specs.Words.{zoneCheck};
 ghost use Rattle.checks.specs.Cross.{crossOf};
 ghost use Rattle.geometry.specs.Accepted.{AcceptedGeometry};
-ghost use Rattle.model.specs.Check.{zonesRead, differing, crossSum, blocksRead, blocksOf};
-ghost use Rattle.map.specs.Checked.{firstDiffering, checkAnswer, Checks};
+ghost use Rattle.model.specs.Check.{zonesRead, differing, crossSum, blocksOf};
+ghost use Rattle.map.specs.Checked.{firstDiffering, checkAnswer, mendChecked, blocksReadBy, checkedParts, checkBytes, Checks};
 
 // An accepted map's geometry, or a refusal.
 pub enum Checked {
@@ -24,29 +24,63 @@ pub enum Checked {
 pub fn check(map: &[u8]) -> Checked
     ensures { λ r. ⌜ Checks (now (map .entry)) r ⌝ }
 {
+    check_parts(map, true)
+}
+
+// The same with 3 and 4 ignored, as the mender asks it (document 02, R-9).
+pub fn check_zones(map: &[u8]) -> Checked
+    ensures { λ r. ⌜ r ≡ mendChecked (now (map .entry)) ⌝ }
+{
+    check_parts(map, false)
+}
+
+// The record, the length, then the blocks: their checks too, or the zones alone.
+fn check_parts(map: &[u8], checks: bool) -> Checked
+    ensures { λ r. ⌜ r ≡ checkedParts (now (map .entry)) checks ⌝ }
+{
     match geometry::read_record(map) {
         RecordRead::Refused(r) => Checked::Refused(r),
         RecordRead::Accepted(g) => {
             if map.len() != g.zones * g.sector {
                 return Checked::Refused(Refusal { number: 1, zone: 0 });
             }
-            check_blocks(map, g)
+            check_blocks(map, g, checks)
         }
     }
 }
 
-// The zone checks of all zones, the cross checks, then zone by zone.
-fn check_blocks(map: &[u8], g: Geometry) -> Checked
+// The check bytes, if they are asked for; then zone by zone.
+fn check_blocks(map: &[u8], g: Geometry, checks: bool) -> Checked
     requires { ⌜ AcceptedGeometry g × (length (now map) ≡ g .zones * g .sector) ⌝ }
-    ensures { λ r. ⌜ r ≡ checkAnswer g (blocksRead g (blocksOf g (now (map .entry)))) ⌝ }
+    ensures { λ r. ⌜ r ≡ checkAnswer g (blocksReadBy checks g (now (map .entry))) ⌝ }
 {
+    match check_bytes(map, g, checks) {
+        CheckBytes::Refused(r) => Checked::Refused(r),
+        CheckBytes::Right => judge_zones(map, g),
+    }
+}
+
+// Check bytes that are right, or a refusal.
+enum CheckBytes {
+    Right,
+    Refused(Refusal),
+}
+
+// The zone checks of all zones, then the cross checks, if they are asked for.
+fn check_bytes(map: &[u8], g: Geometry, checks: bool) -> CheckBytes
+    requires { ⌜ AcceptedGeometry g × (length (now map) ≡ g .zones * g .sector) ⌝ }
+    ensures { λ r. ⌜ r ≡ checkBytes checks (blocksOf g (now (map .entry))) ⌝ }
+{
+    if !checks {
+        return CheckBytes::Right;
+    }
     match zone_checks(map, g) {
-        FirstDiffering::Zone(zone) => Checked::Refused(Refusal { number: 3, zone }),
+        FirstDiffering::Zone(zone) => CheckBytes::Refused(Refusal { number: 3, zone }),
         FirstDiffering::None => {
             if cross_checks(map, g) != 255 {
-                return Checked::Refused(Refusal { number: 4, zone: 0 });
+                return CheckBytes::Refused(Refusal { number: 4, zone: 0 });
             }
-            judge_zones(map, g)
+            CheckBytes::Right
         }
     }
 }
@@ -84,7 +118,7 @@ fn check_holds(block: &[u8]) -> bool
 }
 
 // The exclusive-or of all cross checks, from the last zone down.
-fn cross_checks(map: &[u8], g: Geometry) -> u8
+pub fn cross_checks(map: &[u8], g: Geometry) -> u8
     requires { ⌜ AcceptedGeometry g × (length (now map) ≡ g .zones * g .sector) ⌝ }
     ensures { λ r. ⌜ r ≡ crossSum (blocksOf g (now (map .entry))) ⌝ }
 {

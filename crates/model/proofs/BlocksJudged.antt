@@ -94,7 +94,7 @@ module _ (m : List ℕ) (ms : Measured m) where
       go r (one-wrong y k w o) = ap some (lowest-same Right y z w o b n)
 
   -- zones from z on
-  data ZonesSay (z : ℕ) : Answer (List (List Entry)) → Type 0 where
+  pub data ZonesSay (z : ℕ) : Answer (List (List Entry)) → Type 0 where
     all-ruled : (ess : List (List Entry)) → RuledBelow m ((geometryOf m) .zones) → z + length ess ≡ (geometryOf m) .zones
         → ((i : ℕ) → z + i < (geometryOf m) .zones → ReadAs (geometryOf m) (z + i) (zoneBlock (geometryOf m) m (z + i)) (getD ess i [])) → ZonesSay z (answered ess)
     one-broken : (n y : ℕ) → y < (geometryOf m) .zones → RuledBelow m y → ZoneFault (geometryOf m) y (zoneBlock (geometryOf m) m y) n → ZonesSay z (refused n y)
@@ -127,16 +127,16 @@ module _ (m : List ℕ) (ms : Measured m) where
       go r (zones.kept es w) ih = join-read z es w (zonesRead g (suc z) (rest (z + 1))) (subst⁻¹ (λ (i : ℕ). ZonesSay (z + 1) (zonesRead g i (rest (z + 1)))) add-one (ih (w .rules)))
       go r (zones.broken n f) ih = one-broken n z (omega arith) b f
 
-  zones-say : ZonesSay 0 (zonesRead (geometryOf m) 0 (blocksOf (geometryOf m) m))
+  pub zones-say : ZonesSay 0 (zonesRead (geometryOf m) 0 (blocksOf (geometryOf m) m))
   zones-say =
       subst (λ (l : List (List ℕ)). ZonesSay 0 (zonesRead g 0 l)) (rest-all m (g .zones) (g .sector))
       (zones-from (g .zones) 0 (omega arith) (λ i h. absurd (omega arith)))
 
   -- by number from zone 0
-  abbrev AllRead : List (List Entry) → Type 0
+  abbrev pub AllRead : List (List Entry) → Type 0
   AllRead ess = (z : ℕ) → z < (geometryOf m) .zones → ReadAs (geometryOf m) z (zoneBlock (geometryOf m) m z) (getD ess z [])
 
-  from-0 : (ess : List (List Entry)) → ((i : ℕ) → 0 + i < g .zones → ReadAs g (0 + i) (zoneBlock g m (0 + i)) (getD ess i [])) → AllRead ess
+  pub from-0 : (ess : List (List Entry)) → ((i : ℕ) → 0 + i < g .zones → ReadAs g (0 + i) (zoneBlock g m (0 + i)) (getD ess i [])) → AllRead ess
   from-0 ess rs z h = let e : 0 + z ≡ z = omega arith in subst (λ (x : ℕ). ReadAs g x (zoneBlock g m x) (getD ess z [])) e (rs z (omega arith))
 
   fault-not-ruled : (z n : ℕ) → ZoneFault (geometryOf m) z (zoneBlock (geometryOf m) m z) n → Ruled z → ⊥

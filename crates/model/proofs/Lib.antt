@@ -15,3 +15,4 @@ pub mod MapJudged
 pub mod LinesJudged
 pub mod ZoneTests
 pub mod Lists
+pub mod MapTests

@@ -100,13 +100,20 @@ blocksOf g m = blocks (g .sector) (g .zones) m
 abbrev pub lengthFits : Geometry → List ℕ → Bool
 lengthFits g m = eqb (length m) (g .zones * g .sector)
 
--- the map: the entries of its zones, or a refusal and its zone
-abbrev pub mapRead : List ℕ → Answer (List (List Entry))
-mapRead m =
+-- "1 (under 64), 2, 1", and then r
+abbrev pub measured : List ℕ → Answer (List (List Entry)) → Answer (List (List Entry))
+measured m r =
     unless (leb 64 (length m)) 1
     (unless (recordFits (discRecord m)) 2
-    (unless (lengthFits (geometryOf m) m) 1
-    (blocksRead (geometryOf m) (blocksOf (geometryOf m) m))))
+    (unless (lengthFits (geometryOf m) m) 1 r))
+
+-- the map: the entries of its zones, or a refusal and its zone
+abbrev pub mapRead : List ℕ → Answer (List (List Entry))
+mapRead m = measured m (blocksRead (geometryOf m) (blocksOf (geometryOf m) m))
+
+-- the same with 3 and 4 ignored, as the mender reads it (document 02, R-9)
+abbrev pub mendRead : List ℕ → Answer (List (List Entry))
+mendRead m = measured m (zonesRead (geometryOf m) 0 (blocksOf (geometryOf m) m))
 
 -- the same as it was before there were versions: what a map of version 0 gives (document 02, R-12)
 abbrev pub mapRead0 : List ℕ → Answer (List (List Entry))

@@ -28,12 +28,14 @@ use Rattle.model.proofs.Followed.{Long, total, Followed, was-free, was-owned, f
 use Rattle.model.proofs.FragmentsRead.{written-cut}
 use Rattle.model.proofs.ZoneDrawn.{long-fit, length-frags}
 use Rattle.model.proofs.ZoneTests.{zone-tests}
+use Rattle.model.proofs.LinesJudged.{same-answer}
+use Rattle.model.proofs.MapTests.{ReadTests, read-tests, accepted-tests}
 use Rattle.edits.specs.Room.{In}
 use Rattle.edits.proofs.Entries.{in-append, in-left, in-right, in-map, map-in}
 use Rattle.edits.proofs.Slices.{Sized, sized-blocks}
 use Rattle.edits.proofs.BlockBits.{alloc-length}
 use Rattle.edits.proofs.ZonePlaces.{zone-bits}
-use Rattle.edits.proofs.MapAccepted.{same-answer, zone-and-rest, map-tests}
+use Rattle.edits.proofs.MapAccepted.{zone-and-rest}
 use Rattle.runs.specs.Refusals.{Touch, LowestTouch}
 
 -- the entries lie one after another from bit `at` to `end`
@@ -278,14 +280,16 @@ module _ (g : Geometry) (ok : AcceptedGeometry g) where
 
 -- of a map that was read
 module _ (m : List ℕ) (ess : List (List Entry)) (e : mapRead m ≡ answered ess) where
+  tests : ReadTests m ess
+  tests = read-tests m ess (accepted-tests m ess e .read)
+
   geometry-ok : AcceptedGeometry (geometryOf m)
-  geometry-ok = test-gives-accepted (discRecord m) (map-tests m ess e .record-fits)
+  geometry-ok = test-gives-accepted (discRecord m) (tests .record-fits)
 
   in-rows : ZonesInRow (geometryOf m) 0 ess
   in-rows =
       let g = geometryOf m in
-      let k = map-tests m ess e in
-      zones-in-row g geometry-ok 0 (blocksOf g m) ess (sized-blocks (g .sector) (g .zones) m (k .whole)) (k .zones)
+      zones-in-row g geometry-ok 0 (blocksOf g m) ess (sized-blocks (g .sector) (g .zones) m (tests .whole)) (tests .zones)
 
   pub map-apart : touching 0 ess ≡ none → (z : ℕ) → Touch (geometryOf m) (freeSpans (geometryOf m) 0 ess) z → ⊥
   map-apart = none-touch (geometryOf m) geometry-ok 0 ess in-rows

@@ -12,7 +12,10 @@ use Rattle.listing.specs.Listed.{listTold, listAfter}
 use Rattle.sweep.specs.Sweep.{Class, sweepTold, imageAfter}
 use Rattle.place.specs.Placed.{placeTold}
 use Rattle.claim.specs.Claimed.{claimTold}
+use Rattle.model.specs.Check.{mendRead}
 use Rattle.copies.specs.Copies.{copyJudged, copyTold, targetAfter}
+use Rattle.mended.specs.Mended.{mended, positionsFound}
+use Rattle.mend.specs.Mends.{mendTold, positionsTold, positionsAfter}
 
 -- a listing, by what it finds with so much room
 pub record ListTold (found : ℕ → Answer (List Pair)) (old : List ℕ) (told : ℕ × ℕ × ℕ) (new : List ℕ) : Type 0 where
@@ -40,3 +43,11 @@ pub record ClaimTold (m : List ℕ) (size parent : ℕ) (old : List ℕ) (told :
 pub record CopyTold (source target : List ℕ) (told : ℕ × ℕ) (after : List ℕ) : Type 0 where
   pub numbers : told ≡ copyTold (copyJudged source target)
   pub bytes : after ≡ targetAfter target (copyJudged source target)
+
+pub record MendTold (m : List ℕ) (told : ℕ × ℕ) (after : List ℕ) : Type 0 where
+  pub numbers : told ≡ mendTold (mendRead m)
+  pub bytes : after ≡ mended m
+
+pub record PositionsTold (m old : List ℕ) (told : ℕ × ℕ × ℕ) (new : List ℕ) : Type 0 where
+  pub numbers : told ≡ positionsTold (positionsFound m (length old))
+  pub list : new ≡ positionsAfter old (positionsFound m (length old))

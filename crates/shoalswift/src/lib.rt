@@ -8,6 +8,8 @@ use copies::Copied;
 use copies::Located;
 use listing::Listed;
 use map::Checked;
+use mend::Changes;
+use mend::Mended;
 use place::Placed;
 use sweep::Swept;
 ghost use mathlib.Core.Path.{_≡_};
@@ -18,7 +20,7 @@ ghost use Rattle.address.specs.Address.{locationFound, addressTold};
 ghost use Rattle.sweep.specs.Sweep.{objectSweep, freeSweep, sweepNumbers};
 ghost use Rattle.copies.specs.Copies.{copyFound, sameBytes, choiceTold, addressesFound, addressesTold};
 ghost use Rattle.shoalswift.specs.Geometry.{geometryNumbers};
-ghost use Rattle.shoalswift.specs.Told.{ListTold, SweepTold, ReleaseTold, PlaceTold, ClaimTold, CopyTold};
+ghost use Rattle.shoalswift.specs.Told.{ListTold, SweepTold, ReleaseTold, PlaceTold, ClaimTold, CopyTold, MendTold, PositionsTold};
 
 // Checks a map.
 #[no_mangle]
@@ -283,6 +285,47 @@ pub extern "C" fn shoalswift_copy_addresses(
         Located::Refused(r) => {
             *first = 0;
             *second = 0;
+            *zone = r.zone;
+            r.number
+        }
+    }
+}
+
+// Mends a map.
+#[no_mangle]
+pub extern "C" fn shoalswift_mend(map: &mut [u8], zone: &mut u32) -> u32
+    ensures { λ r. ⌜ MendTold (now (map .entry)) (r, now (zone .exit)) (now (map .exit)) ⌝ }
+{
+    match mend::mend(map) {
+        Mended::Done => {
+            *zone = 0;
+            0
+        }
+        Mended::Refused(r) => {
+            *zone = r.zone;
+            r.number
+        }
+    }
+}
+
+// The positions of the bytes that mending would change.
+#[no_mangle]
+pub extern "C" fn shoalswift_mend_positions(
+    map: &[u8],
+    list: &mut [u32],
+    positions: &mut u64,
+    zone: &mut u32,
+) -> u32
+    ensures { λ r. ⌜ PositionsTold (now (map .entry)) (now (list .entry)) (r, now (zone .exit), now (positions .exit)) (now (list .exit)) ⌝ }
+{
+    match mend::mend_positions(map, list) {
+        Changes::Positions(n) => {
+            *positions = n as u64;
+            *zone = 0;
+            0
+        }
+        Changes::Refused(r) => {
+            *positions = 0;
             *zone = r.zone;
             r.number
         }

@@ -91,14 +91,14 @@ fn print_changes(
 
 fn writes_list(call: u8) -> bool {
     match call {
-        2 | 3 | 7 | 9 => true,
+        2 | 3 | 7 | 9 | 14 => true,
         _ => false,
     }
 }
 
 fn writes_map(call: u8) -> bool {
     match call {
-        7 | 8 | 9 => true,
+        7 | 8 | 9 | 13 => true,
         _ => false,
     }
 }
@@ -126,6 +126,8 @@ fn run_call(head: &[u8; 32], map: &mut [u8], list: &mut [u32], image: &mut [u8])
         10 => run_choose_copy(map, image),
         11 => run_copy_over(map, image),
         12 => run_copy_addresses(map),
+        13 => run_mend(map),
+        14 => run_mend_positions(map, list),
         _ => print_text(b"unknown"),
     }
 }
@@ -268,6 +270,22 @@ fn run_copy_addresses(map: &[u8]) {
     print_answer(r, zone);
     print_value(first);
     print_value(second);
+}
+
+fn run_mend(map: &mut [u8]) {
+    let mut zone = 0;
+    let r = shoalswift::shoalswift_mend(map, &mut zone);
+    print_text(b"mend");
+    print_answer(r, zone);
+}
+
+fn run_mend_positions(map: &[u8], list: &mut [u32]) {
+    let mut zone = 0;
+    let mut count = 0;
+    let r = shoalswift::shoalswift_mend_positions(map, list, &mut count, &mut zone);
+    print_text(b"mend_positions");
+    print_answer(r, zone);
+    print_value(count);
 }
 
 fn print_answer(number: u32, zone: u32) {

@@ -37,7 +37,7 @@ use Rattle.writer.specs.Edited.{ownedInZone, piecesAfter, ZoneEdit, zone
 use Rattle.writer.proofs.PartPairs.{zone-listed, part-pairs, part-touches, part-some, part-ascends, part-fits, count-turn}
 
 -- no piece of an accepted map is one of object 0
-none-of-zero : (l : List Piece) → All (λ p. leb 1 (p .owner)) l → without 0 l ≡ l
+pub none-of-zero : (l : List Piece) → All (λ p. leb 1 (p .owner)) l → without 0 l ≡ l
 none-of-zero [] a = refl
 none-of-zero (p ∷ ps) a = simp (ne-eqb (p .owner) 0 (λ e. omega (arith, leb-true 1 (p .owner) (a .0)))) (ap (λ (r : List Piece). p ∷ r) (none-of-zero ps (a .1)))
 

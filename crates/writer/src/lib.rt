@@ -117,7 +117,7 @@ pub fn pieces_after(
 
 // The pieces of zone z without those of `gone`. Each line is stored after those that stay, and counts if it stays too. A zone has
 // at most 682 lines.
-fn staying(map: &[u8], g: Geometry, z: usize, gone: u32, buffer: &mut [u32]) -> usize
+pub fn staying(map: &[u8], g: Geometry, z: usize, gone: u32, buffer: &mut [u32]) -> usize
     requires { ⌜ ReadableFrom (now map) g z × (z < g .zones) × (2048 ≤ length (now buffer)) ⌝ }
     ensures { λ r. ⌜ (3 * r ≤ 2048) × (piecesFrom (now (buffer .exit)) 0 r ≡ without gone (zonePieces g (now (map .entry)) z)) ⌝ }
 {

@@ -6,8 +6,8 @@
 //! that do nothing else.
 //!
 //! `--quick` makes one round, to see that all of it runs. `--before FILE.so`
-//! measures an earlier build of the product too, but for its claims, and adds a
-//! table of the two.
+//! measures an earlier build of the product too, but for its claims and its mender, and
+//! adds a table of the two.
 //! `--sweeps` leaves out all tables but the last.
 
 mod discs;
@@ -101,7 +101,8 @@ fn print_calls(before: Option<Calls>, plan: &Plan) -> bool {
 /// All who make the calls of a size, for each name. An earlier build is none of them
 /// where it refuses the maps with 2, as one from before R-4 of document 02 does those
 /// of 255 zones, and one from before R-12 those of E+ discs. It makes no claims, which
-/// had other signatures before R-6 and before R-8.
+/// had other signatures before R-6 and before R-8, and mends nothing, as there was no
+/// mender before R-9.
 fn sides_of(before: Option<Calls>, size: &Size) -> Vec<Vec<Side>> {
     let knows = |calls: &Calls| {
         let check = &size.cases[0][0];
@@ -109,7 +110,7 @@ fn sides_of(before: Option<Calls>, size: &Size) -> Vec<Vec<Side>> {
         answer.number != 2
     };
     let before = before.filter(knows);
-    let of_name = |call| sides(before.filter(|_| call != Call::Claim));
+    let of_name = |call: Call| sides(before.filter(|_| call != Call::Claim && !call.mends()));
     let calls = size.cases.iter().map(|cases| cases[0].call);
     calls.map(of_name).collect()
 }
@@ -178,7 +179,9 @@ fn print_how(times: &[Vec<Lowest>], plan: &Plan) {
          The object listed, released and placed has two pieces in every zone. sweep_free has a window of \
          1 MiB. The claim's only hole is the last of the disc, and its parent is zone 0, or in `near` the last \
          zone; ids begin anew in each zone, and in `packed` they go up from 3 without a gap. In `split` the map \
-         has no hole of more than 32 bits, and half of what is free is claimed, in pieces all over the disc."
+         has no hole of more than 32 bits, and half of what is free is claimed, in pieces all over the disc. \
+         mend and mend_positions have a map whose holes are all cut into fragments as short as can be, with every \
+         zone check and a cross check wrong, and room for as many positions as the map has bytes."
     );
     println!();
     println!("{} The reference has overflow checks.", machine());
@@ -240,11 +243,11 @@ fn print_change(sizes: &[Size], times: &[Vec<Lowest>]) {
         "Microseconds: after / before = ratio; after is the product, before the earlier build, which was called \
          in the same rounds and gave the same answers and bytes. Maps that it refuses with 2, as more than 127 \
          zones and E+ discs were once, are left out, and so are claims, which had no parent zone and no list \
-         once."
+         once, and the mender, which was not there."
     );
     println!();
     let mut names = NAMES.to_vec();
-    names.retain(|name| !name.starts_with("claim"));
+    names.retain(|name| !name.starts_with("claim") && !name.starts_with("mend"));
     print_head(&["zones"], &names);
     for (size, row) in sizes.iter().zip(times) {
         if !row[0].has_before() {

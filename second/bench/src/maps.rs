@@ -1,7 +1,7 @@
 //! The maps that are measured and the calls made on them.
 
 use reference::case::{Call, Case};
-use reference::generate::{build, record_of_zones, Rng};
+use reference::generate::{build, record_of_zones, worn, Rng};
 use reference::geometry::{DiscRecord, Edition, Geometry, MOST_ZONES};
 use reference::map::{check, Owner};
 
@@ -78,7 +78,7 @@ impl Layout {
 }
 
 /// The calls measured, in the order of their columns.
-pub const NAMES: [&str; 10] = [
+pub const NAMES: [&str; 12] = [
     "check",
     "list",
     "free",
@@ -89,6 +89,8 @@ pub const NAMES: [&str; 10] = [
     "claim, near",
     "claim, packed",
     "claim, split",
+    "mend",
+    "mend_positions",
 ];
 
 /// The maps of one size, and the calls to be measured on them.
@@ -296,57 +298,74 @@ fn spread_id(geometry: &Geometry) -> u32 {
     ((geometry.middle_zone() + 1) * geometry.ids_per_zone - 1) as u32
 }
 
+/// A call about the spread object, with room for every fragment there can be.
+fn case(geometry: &Geometry, call: Call, map: &[u8]) -> Case {
+    let mut case = Case::new(call, map);
+    case.number = spread_id(geometry);
+    case.list = vec![0; 2 * geometry.ids()];
+    case
+}
+
 /// The calls on a map, in the order of their names.
 fn calls(geometry: &Geometry, map: &[u8], packed: &[u8], crowded: &[u8]) -> [Case; NAMES.len()] {
-    let case = |call, map: &[u8]| {
-        let mut case = Case::new(call, map);
-        case.number = spread_id(geometry);
-        // Room for every fragment there can be.
-        case.list = vec![0; 2 * geometry.ids()];
-        case
-    };
-
-    let mut sweep = case(Call::SweepFree, map);
+    let mut sweep = case(geometry, Call::SweepFree, map);
     sweep.fill = 0xFF;
     sweep.wide = (geometry.disc_size - WINDOW as u64) / 2;
 
-    let release = case(Call::Release, map);
+    let release = case(geometry, Call::Release, map);
     let released = release.run();
     let pieces = spread(geometry).len() * geometry.nzones;
     assert_eq!(released.values[0], pieces as u64, "a zone lacks a piece");
-    let mut place = case(Call::Place, &released.map);
+    let mut place = case(geometry, Call::Place, &released.map);
     place.list = released.list[..2 * pieces].to_vec();
 
-    let claim = |map, parent| {
-        let mut claim = case(Call::Claim, map);
-        claim.number = parent;
-        claim.wide = CLAIMED_BITS * geometry.bytes_per_map_bit;
-        let start = claim.run().list[0] as usize;
-        assert_eq!(start, geometry.disc_bits() - LONG_HOLE, "another hole");
-        claim
-    };
-    // Half of what is free.
-    let mut split = case(Call::Claim, crowded);
+    // The hole is in the last zone.
+    let claim_near = claim(geometry, map, geometry.nzones as u32 - 1);
+    let [mend, positions] = mends(map);
+    [
+        case(geometry, Call::Check, map),
+        case(geometry, Call::List, map),
+        case(geometry, Call::Free, map),
+        sweep,
+        release,
+        place,
+        claim(geometry, map, 0),
+        claim_near,
+        claim(geometry, packed, 0),
+        split(geometry, crowded),
+        mend,
+        positions,
+    ]
+}
+
+/// A claim of the disc's last hole, near a zone.
+fn claim(geometry: &Geometry, map: &[u8], parent: u32) -> Case {
+    let mut claim = case(geometry, Call::Claim, map);
+    claim.number = parent;
+    claim.wide = CLAIMED_BITS * geometry.bytes_per_map_bit;
+    let start = claim.run().list[0] as usize;
+    assert_eq!(start, geometry.disc_bits() - LONG_HOLE, "another hole");
+    claim
+}
+
+/// A claim of half of what is free on a crowded map.
+fn split(geometry: &Geometry, crowded: &[u8]) -> Case {
+    let mut split = case(geometry, Call::Claim, crowded);
     split.number = 0;
     split.wide = free_bits(crowded) as u64 / 2 * geometry.bytes_per_map_bit;
     let pieces = split.run().values[1] as usize;
     assert!(pieces > 2 * geometry.nzones, "few pieces");
-    // The hole is in the last zone.
-    let claim_near = claim(map, geometry.nzones as u32 - 1);
-    let (claim, claim_packed) = (claim(map, 0), claim(packed, 0));
+    split
+}
 
-    let (check, list) = (case(Call::Check, map), case(Call::List, map));
-    let free = case(Call::Free, map);
-    [
-        check,
-        list,
-        free,
-        sweep,
-        release,
-        place,
-        claim,
-        claim_near,
-        claim_packed,
-        split,
-    ]
+/// The calls that mend (R-9 of document 02), on a map in the worst order, in which every
+/// zone has something to join: with room for every byte there is.
+fn mends(map: &[u8]) -> [Case; 2] {
+    let worn = worn(map);
+    let mend = Case::new(Call::Mend, &worn);
+    // But for a cross check it is the map as it was.
+    assert!(check(&mend.run().map) == check(map), "not mended");
+    let mut positions = Case::new(Call::MendPositions, &worn);
+    positions.list = vec![0; map.len()];
+    [mend, positions]
 }

@@ -2,7 +2,7 @@
 
 use product::{Answer, Calls};
 use reference::case::{Call, Case};
-use reference::{edit, map, read, Refusal};
+use reference::{edit, map, mend, read, Refusal};
 
 use crate::maps::WINDOW;
 
@@ -78,6 +78,8 @@ fn reference(case: &Case, lent: &mut Lent) -> Answer {
         Call::Place => edit::place(map, id, list).map(|_| [0; 2]),
         Call::Claim => edit::claim(map, wide, case.number, list)
             .map(|claimed| [claimed.id as u64, claimed.pairs]),
+        Call::Mend => mend::mend(map).map(|_| [0; 2]),
+        Call::MendPositions => one(mend::mend_positions(map, list)),
         Call::Address | Call::SweepObject => unreachable!("not measured"),
         Call::ChooseCopy | Call::CopyOver | Call::CopyAddresses => unreachable!("not measured"),
     };

@@ -2,15 +2,18 @@
 //! few calls on each: what is given out is given back, so that every byte must be
 //! as before. Claims take up to all holes of the disc. One map is for claims alone
 //! as its ids go up without a gap, and two more are there for the addresses of
-//! their copies alone.
+//! their copies alone. Those of 1,000 and of 20,971 zones are mended too, with
+//! something to join in every zone.
 
 use reference::case::{Call, Case};
 use reference::generate::{
     map_of_a_high_copy, map_of_packed_ids, map_of_zones, record_of_zones, repair_zone_checks,
-    with_bytes,
+    with_bytes, worn,
 };
 use reference::geometry::{DiscRecord, Edition, DISC_RECORD, NZONES_HIGH};
-use reference::map::{check, CheckedMap, Fragment};
+use reference::map::{check, set_bit, CheckedMap, Fragment};
+
+use crate::mends::{changed, positions};
 
 /// How many zones have a piece of the object that is placed: an odd number.
 const PIECES: usize = 41;
@@ -84,6 +87,7 @@ fn cases(map: &[u8]) -> Vec<Case> {
     claimed_and_released(&mut cases, map);
     claimed_in_pieces(&mut cases, &checked, map);
     copied(&mut cases, map);
+    mended(&mut cases, map);
     cases
 }
 
@@ -216,4 +220,31 @@ fn copied(cases: &mut Vec<Case>, map: &[u8]) {
     copy.image = choose.map.clone();
     assert!(copy.run().image == map);
     cases.extend([choose, copy, Case::new(Call::CopyAddresses, map)]);
+}
+
+/// The map in the worst order is mended, which may change all bits of a zone's hole, and
+/// zone 0's cross check for the last zone's; with as many entries as there are positions,
+/// and with one less. Then the last zone's last closing bit is gone.
+fn mended(cases: &mut Vec<Case>, map: &[u8]) {
+    let worn = worn(map);
+    let mend = Case::new(Call::Mend, &worn);
+    let after = mend.run().map;
+    // The last zone's cross check is another, and so is zone 0's.
+    let last = map.len() - 256;
+    assert!(check(&after).is_ok() && after[last + 3] != map[last + 3]);
+    let number = changed(&worn, &after).len();
+    let mut open = worn.clone();
+    let end = check(map).expect("a valid map").geometry.end_block_bit();
+    set_bit(&mut open[last..], end - 1, false);
+    let refused = [Case::new(Call::Mend, &open), positions(&open, 0)];
+    assert!(refused.iter().all(|case| case.run().number == 6));
+    cases.extend([
+        mend,
+        positions(&worn, number),
+        positions(&worn, number - 1),
+        Case::new(Call::Check, &after),
+        Case::new(Call::Mend, &after),
+        positions(&after, 0),
+    ]);
+    cases.extend(refused);
 }

@@ -1,7 +1,8 @@
 //! Runs many calls through the product and through the reference; every
 //! answer and every lent byte must agree, and so must the geometry of every
 //! map. Sweeps of free space are made by the two programs of `sweep` too. Each
-//! accepted claim is released again, and its list placed where it was made.
+//! accepted claim is released again, and its list placed where it was made. Each map is
+//! mended, and what it becomes is read, mended again and edited.
 //!
 //! SEEDS names the seeds: `N` for 0 to N-1, or `A..B` for A to B-1. If TRACE
 //! is set, each call is named before it is made, to find one that never
@@ -15,16 +16,20 @@ use std::process::ExitCode;
 mod claims;
 mod copies;
 mod large;
+mod mends;
 mod pieces;
 mod program;
 
 use claims::Claims;
 use copies::Copies;
+use mends::Mends;
 use pieces::Pieces;
 use product::Told;
 use program::Program;
 use reference::case::{Call, Case, Outcome, CALLS};
-use reference::generate::{play, play_addresses, play_claims, play_copies, play_pieces, Sizes};
+use reference::generate::{
+    play, play_addresses, play_claims, play_copies, play_mends, play_pieces, Sizes,
+};
 use reference::geometry::{DiscRecord, LARGEST_MAP};
 use reference::map::{check, only_reserved_bytes_are_wrong, CheckedMap};
 
@@ -233,6 +238,7 @@ struct Tally {
     claims: Claims,
     pieces: Pieces,
     copies: Copies,
+    mends: Mends,
     /// Accepted claims that were released, and whose list was placed.
     undone: u64,
     last_map: Vec<u8>,
@@ -255,6 +261,7 @@ impl Tally {
             claims: Claims::default(),
             pieces: Pieces::default(),
             copies: Copies::default(),
+            mends: Mends::default(),
             undone: 0,
             last_map: Vec::new(),
             trace,
@@ -284,6 +291,57 @@ impl Tally {
         }
         if case.call == Call::Address && ours.number == 0 {
             self.count_touching(case, ours);
+        }
+    }
+
+    /// Makes a call by both, and answers the reference's outcome.
+    fn make(&mut self, of: &str, step: u64, case: &Case) -> Outcome {
+        self.trace(of, step, case);
+        let ours = case.run();
+        self.compare(of, step, case, &ours);
+        ours
+    }
+
+    /// Mends a map, whether or not it is accepted (R-9 of document 02), and lists what
+    /// that changes, with as much room as is needed and with an entry less. The positions
+    /// are those of the bytes that differ between the map before and after.
+    fn compare_mends(&mut self, of: &str, step: u64, map: &[u8]) {
+        let of = format!("{of}, mending the map of call {step}");
+        let mended = self.make(&of, 0, &Case::new(Call::Mend, map));
+        self.mends.count(map, &mended);
+        let changed = mends::changed(map, &mended.map);
+        let refused = (mended.number, mended.zone);
+        let all = mends::positions(map, changed.len());
+        let listed = self.make(&of, 1, &all);
+        let told = (listed.number, listed.zone);
+        if told != refused || listed.list != changed || listed.values != [changed.len() as u64] {
+            self.differ(lent(&all), || format!("{of}: other positions\n"));
+        }
+        if changed.is_empty() {
+            return;
+        }
+        let short = mends::positions(map, changed.len() - 1);
+        if self.make(&of, 2, &short).number != 17 {
+            self.differ(lent(&short), || format!("{of}: an entry too few\n"));
+        }
+        self.compare_mended(&of, &mended.map);
+    }
+
+    /// "a mended map is accepted, and mending twice is mending once", and edits of it are
+    /// accepted.
+    fn compare_mended(&mut self, of: &str, mended: &[u8]) {
+        for (case, step) in mends::readings(mended).iter().zip(3..) {
+            let outcome = self.make(of, step, case);
+            if outcome.number != 0 || outcome.map != mended {
+                self.differ(lent(case), || format!("{of}, {step}: not in order\n"));
+            }
+        }
+        for (case, step) in mends::edits(mended).iter().zip(20..) {
+            let outcome = self.make(of, step, case);
+            self.mends.edits += u64::from(outcome.number == 0);
+            if outcome.number != 0 {
+                self.differ(lent(case), || format!("{of}, {step}: an edit refused\n"));
+            }
         }
     }
 
@@ -390,7 +448,7 @@ impl Tally {
     }
 
     fn print_table(&self) {
-        print!("{:14}", "call");
+        print!("{:15}", "call");
         for number in 0..18 {
             print!("{number:>7}");
         }
@@ -425,6 +483,7 @@ impl Tally {
             self.undone
         );
         self.copies.print();
+        self.mends.print();
     }
 
     /// What is wrong with the whole run, in lines; none where all agree and
@@ -452,6 +511,7 @@ impl Tally {
         lines.extend(self.claims.complaints());
         lines.extend(self.pieces.complaints());
         lines.extend(self.copies.complaints(&self.compared));
+        lines.extend(self.mends.complaints(&self.compared));
         lines
     }
 
@@ -486,7 +546,7 @@ impl Tally {
 }
 
 fn print_row(name: &str, counts: &[u64; 18]) {
-    print!("{name:14}");
+    print!("{name:15}");
     for count in counts {
         print!("{count:>7}");
     }
@@ -515,6 +575,7 @@ fn compare(seeds: std::ops::Range<u64>, program: &mut Option<Program>) -> Tally 
             }
             if let Some(told) = tally.compare_geometry(&of, step, &case.map) {
                 tally.count(&case.map, &told);
+                tally.compare_mends(&of, step, &case.map);
             }
             tally.compare(&of, step, case, ours);
             tally.compare_undone(&of, step, case, ours);
@@ -528,6 +589,7 @@ fn compare(seeds: std::ops::Range<u64>, program: &mut Option<Program>) -> Tally 
         play_claims(seed, &sizes, &mut visit);
         play_pieces(seed, &sizes, &mut visit);
         play_copies(seed, &sizes, &mut visit);
+        play_mends(seed, &sizes, &mut visit);
     }
     tally
 }

@@ -21,8 +21,8 @@ const UNWRITTEN: u64 = 0xDEAD_BEEF_DEAD_BEEF;
 
 /// The functions of one version of the product that are made on one map. As `LINKED`
 /// is made of those declared, the compiler sees that the types are today's. An
-/// earlier version with other signatures cannot be compared; of address and claim see
-/// `opened`.
+/// earlier version with other signatures cannot be compared; of address, claim and the
+/// two that mend see `opened`.
 /// Those on two copies (R-5 of document 02) are none of these, as they are not timed
 /// and earlier versions have none.
 #[derive(Clone, Copy)]
@@ -57,6 +57,9 @@ pub struct Calls {
         *mut u64,
         *mut u32,
     ) -> u32,
+    mend: unsafe extern "C" fn(*mut u8, usize, *mut u32) -> u32,
+    mend_positions:
+        unsafe extern "C" fn(*const u8, usize, *mut u32, usize, *mut u64, *mut u32) -> u32,
 }
 
 impl Calls {
@@ -71,6 +74,8 @@ impl Calls {
         release: shoalswift_release,
         place: shoalswift_place,
         claim: shoalswift_claim,
+        mend: shoalswift_mend,
+        mend_positions: shoalswift_mend_positions,
     };
 
     /// Makes a case's call, one on one map, on the bytes and entries lent in place of
@@ -102,6 +107,8 @@ impl Calls {
                 Call::Release => (self.release)(map, map_len, id, list, list_len, v, z),
                 Call::Place => (self.place)(map, map_len, id, list, list_len, z),
                 Call::Claim => (self.claim)(map, map_len, wide, parent, list, list_len, n, v, z),
+                Call::Mend => (self.mend)(map, map_len, z),
+                Call::MendPositions => (self.mend_positions)(map, map_len, list, list_len, v, z),
                 _ => unreachable!("it is made on two copies"),
             }
         };

@@ -30,8 +30,8 @@ impl Calls {
     /// # Safety
     ///
     /// The file is a build of the product whose functions have the signatures
-    /// of today, but for address and claim, which are not looked up. No check could
-    /// find another, so a version with one must not be opened.
+    /// of today, but for address, claim and the two that mend, which are not looked up.
+    /// No check could find another, so a version with one must not be opened.
     pub unsafe fn open(file: &str) -> Result<Calls, String> {
         let library = open(file)?;
         // SAFETY: the signatures are those of today, as the fields' types are.
@@ -46,6 +46,8 @@ impl Calls {
                 release: find(library, c"shoalswift_release")?,
                 place: find(library, c"shoalswift_place")?,
                 claim: no_claim,
+                mend: no_mend,
+                mend_positions: no_mend_positions,
             })
         }
     }
@@ -81,6 +83,24 @@ unsafe extern "C" fn no_claim(
     _zone: *mut u32,
 ) -> u32 {
     unreachable!("the claim of an opened library is not called")
+}
+
+/// In place of the library's own mender, which nobody calls, as `bench` does not time it:
+/// a version from before R-9 of document 02 has none.
+unsafe extern "C" fn no_mend(_map: *mut u8, _map_len: usize, _zone: *mut u32) -> u32 {
+    unreachable!("the mender of an opened library is not called")
+}
+
+/// The same for the positions that it would change.
+unsafe extern "C" fn no_mend_positions(
+    _map: *const u8,
+    _map_len: usize,
+    _list: *mut u32,
+    _list_len: usize,
+    _count: *mut u64,
+    _zone: *mut u32,
+) -> u32 {
+    unreachable!("the mender of an opened library is not called")
 }
 
 fn open(file: &str) -> Result<*mut c_void, String> {

@@ -2,7 +2,7 @@
 
 use std::fmt::Display;
 
-use crate::{copies, edit, map, read, Refusal};
+use crate::{copies, edit, map, mend, read, Refusal};
 
 /// The calls, numbered as in a stored case.
 #[derive(Clone, Copy, Debug, PartialEq, Eq, PartialOrd, Ord)]
@@ -19,9 +19,11 @@ pub enum Call {
     ChooseCopy,
     CopyOver,
     CopyAddresses,
+    Mend,
+    MendPositions,
 }
 
-pub const CALLS: [Call; 12] = [
+pub const CALLS: [Call; 14] = [
     Call::Check,
     Call::List,
     Call::Free,
@@ -34,10 +36,12 @@ pub const CALLS: [Call; 12] = [
     Call::ChooseCopy,
     Call::CopyOver,
     Call::CopyAddresses,
+    Call::Mend,
+    Call::MendPositions,
 ];
 
 /// Those of document 01, which are made on one map. The others are about a map's two
-/// copies (R-5 of document 02).
+/// copies (R-5 of document 02), or mend a map.
 pub const CALLS_ON_ONE_MAP: &[Call] = CALLS.split_at(9).0;
 
 impl Call {
@@ -55,13 +59,18 @@ impl Call {
             Call::ChooseCopy => "choose_copy",
             Call::CopyOver => "copy_over",
             Call::CopyAddresses => "copy_addresses",
+            Call::Mend => "mend",
+            Call::MendPositions => "mend_positions",
         }
     }
 
     /// The refusals that document 01's table allows the call, 14 left out, for claim
-    /// R-8 of document 02, and for the last three R-5.
+    /// R-8 of document 02, for the calls on copies R-5, and for the last two R-9.
     pub fn refusals(self) -> Vec<u32> {
         let mut numbers: Vec<u32> = (1..=7).collect();
+        if self.mends() {
+            numbers.retain(|number| !matches!(number, 3 | 4));
+        }
         numbers.extend_from_slice(match self {
             Call::Check => &[],
             Call::List => &[8, 10, 17],
@@ -73,14 +82,21 @@ impl Call {
             Call::Place => &[8, 9, 11, 12, 13],
             Call::Claim => &[9, 12, 15, 17],
             Call::ChooseCopy | Call::CopyOver | Call::CopyAddresses => &[],
+            Call::Mend => &[],
+            Call::MendPositions => &[17],
         });
         numbers
+    }
+
+    /// Whether it mends a map, or tells what that would change (R-9 of document 02).
+    pub fn mends(self) -> bool {
+        matches!(self, Call::Mend | Call::MendPositions)
     }
 
     /// How many numbers it answers besides the refusal's number and zone.
     pub fn values(self) -> usize {
         match self {
-            Call::Check | Call::Place | Call::CopyOver => 0,
+            Call::Check | Call::Place | Call::CopyOver | Call::Mend => 0,
             Call::Address | Call::Claim | Call::ChooseCopy | Call::CopyAddresses => 2,
             _ => 1,
         }
@@ -96,11 +112,14 @@ impl Call {
     }
 
     pub fn writes_list(self) -> bool {
-        matches!(self, Call::List | Call::Free | Call::Release | Call::Claim)
+        matches!(
+            self,
+            Call::List | Call::Free | Call::Release | Call::Claim | Call::MendPositions
+        )
     }
 
     pub fn writes_map(self) -> bool {
-        matches!(self, Call::Release | Call::Place | Call::Claim)
+        matches!(self, Call::Release | Call::Place | Call::Claim | Call::Mend)
     }
 
     pub fn writes_image(self) -> bool {
@@ -124,7 +143,7 @@ pub struct Case {
     pub wide: u64,
     /// The map. Of two copies the first, or the source.
     pub map: Vec<u8>,
-    /// The room lent for pairs, with its old contents, or the list handed in.
+    /// The room lent for pairs or positions, with its old contents, or the list handed in.
     pub list: Vec<u32>,
     /// The image. Of two copies the second, or the target.
     pub image: Vec<u8>,
@@ -207,6 +226,8 @@ impl Case {
             Call::CopyAddresses => {
                 copies::copy_addresses(map).map(|copies| vec![copies.first, copies.second])
             }
+            Call::Mend => mend::mend(map).map(|_| vec![]),
+            Call::MendPositions => one(mend::mend_positions(map, list)),
         }
     }
 

@@ -1,6 +1,6 @@
 //! A deterministic generator: maps over all geometries of document 01, damage
 //! to them, arguments for each call, runs of calls, claims on crowded maps, in one piece
-//! and in several, and pairs of copies. A seed decides all.
+//! and in several, pairs of copies, and maps to mend. A seed decides all.
 
 use std::ops::Range;
 
@@ -14,6 +14,7 @@ use crate::map::{
     block_mut, check, set_bit, set_number, write_fragments, zone_check_by_words, CheckedMap,
     Fragment, Owner,
 };
+use crate::mend::mend;
 
 /// A small generator of numbers (splitmix64).
 pub struct Rng {
@@ -1304,6 +1305,7 @@ pub fn arguments(rng: &mut Rng, call: Call, map: &[u8], sizes: &Sizes, memory: &
         Call::ChooseCopy | Call::CopyOver | Call::CopyAddresses => {
             unreachable!("copies are made in pairs")
         }
+        Call::Mend | Call::MendPositions => unreachable!("maps to mend are made for it"),
     }
     case
 }
@@ -1790,6 +1792,228 @@ pub fn play_copies(seed: u64, sizes: &Sizes, visit: &mut dyn FnMut(&Case, &Outco
             visit(&case, &case.run());
         }
         let case = Case::new(Call::CopyAddresses, one);
+        visit(&case, &case.run());
+    }
+}
+
+// -------------------------------------------------------------- maps to mend
+
+/// A valid map whose free fragments are cut into touching ones, of the lengths that a
+/// function gives for each. Its zone checks are right.
+pub fn with_holes_cut(
+    map: &[u8],
+    mut lengths: impl FnMut(&Geometry, usize) -> Vec<usize>,
+) -> Vec<u8> {
+    let checked = check(map).expect("a valid map");
+    let geometry = &checked.geometry;
+    let mut map = map.to_vec();
+    for (zone, fragments) in checked.zones.iter().enumerate() {
+        let mut cut = Vec::new();
+        for fragment in fragments {
+            let mut start = fragment.start;
+            let parts = match fragment.owner {
+                Owner::Free => lengths(geometry, fragment.length),
+                Owner::Object(_) => vec![fragment.length],
+            };
+            for length in parts {
+                cut.push(Fragment {
+                    start,
+                    length,
+                    ..*fragment
+                });
+                start += length;
+            }
+        }
+        let block = block_mut(&mut map, geometry.sector_size, zone);
+        write_fragments(geometry, block, &cut);
+    }
+    repair_zone_checks(&mut map, geometry.sector_size);
+    map
+}
+
+/// As many lengths as so many bits can have, the last with what is left.
+fn shortest_lengths(geometry: &Geometry, total: usize) -> Vec<usize> {
+    let m = geometry.shortest_fragment;
+    let mut lengths = vec![m; total / m];
+    *lengths.last_mut().expect("a fragment's bits") += total % m;
+    lengths
+}
+
+/// A valid map in the worst order that can be mended (R-9 of document 02): every free
+/// fragment is cut into shortest ones, and every zone check and the last zone's cross
+/// check are wrong.
+pub fn worn(map: &[u8]) -> Vec<u8> {
+    let mut worn = with_holes_cut(map, shortest_lengths);
+    let sector_size = check(map).expect("a valid map").geometry.sector_size;
+    let last = block_mut(&mut worn, sector_size, map.len() / sector_size - 1);
+    last[3] ^= 0x55;
+    for block in worn.chunks_exact_mut(sector_size) {
+        block[0] = !zone_check_by_words(block);
+    }
+    worn
+}
+
+/// Lengths of touching free fragments that fill so many bits: one, two or three, as many
+/// as can be, or any.
+fn some_cut(rng: &mut Rng, geometry: &Geometry, total: usize) -> Vec<usize> {
+    let (k, m) = (geometry.cluster_bits, geometry.shortest_fragment);
+    let first = |rng: &mut Rng, total: usize| m + k * rng.below((total - 2 * m) / k + 1);
+    match rng.below(6) {
+        1 | 2 if total >= 2 * m => {
+            let first = first(rng, total);
+            vec![first, total - first]
+        }
+        3 if total >= 3 * m => {
+            let last = first(rng, total - m);
+            let first = first(rng, total - last);
+            vec![first, total - first - last, last]
+        }
+        4 => shortest_lengths(geometry, total),
+        5 => lengths(rng, geometry, total),
+        _ => vec![total],
+    }
+}
+
+/// Changes cross checks: zone 0's, another's, those of two zones by the same, so that
+/// all still give 255, or all of them. The zone checks are right then.
+fn change_cross_checks(rng: &mut Rng, map: &mut [u8], sector_size: usize) {
+    let zones = map.len() / sector_size;
+    if zones == 0 {
+        return;
+    }
+    let change = rng.between(1, 255) as u8;
+    let (one, other) = (rng.below(zones), rng.below(zones));
+    match rng.below(6) {
+        0 | 1 => map[3] ^= change,
+        2 => map[(zones - 1) * sector_size + 3] ^= change,
+        3 => map[one * sector_size + 3] ^= change,
+        4 => {
+            map[one * sector_size + 3] ^= change;
+            map[other * sector_size + 3] ^= change;
+        }
+        _ => map
+            .chunks_exact_mut(sector_size)
+            .for_each(|block| block[3] = rng.byte()),
+    }
+    repair_zone_checks(map, sector_size);
+}
+
+/// Changes zone checks: one, zone 0's, the last one's, all, or all to what they are once
+/// the map is mended, which is wrong where free fragments touch.
+fn change_zone_checks(rng: &mut Rng, map: &mut [u8], sector_size: usize) {
+    let zones = map.len() / sector_size;
+    if zones == 0 {
+        return;
+    }
+    let change = rng.between(1, 255) as u8;
+    match rng.below(8) {
+        0 | 1 => map[rng.below(zones) * sector_size] ^= change,
+        2 => map[0] ^= change,
+        3 => map[(zones - 1) * sector_size] ^= change,
+        4 => map
+            .chunks_exact_mut(sector_size)
+            .for_each(|block| block[0] = change),
+        5 => map
+            .chunks_exact_mut(sector_size)
+            .for_each(|block| block[0] = rng.byte()),
+        _ => {
+            let mut mended = map.to_vec();
+            if mend(&mut mended).is_ok() {
+                for zone in 0..zones {
+                    map[zone * sector_size] = mended[zone * sector_size];
+                }
+            }
+        }
+    }
+}
+
+/// Which refusals a map to mend is damaged towards, beside 3, 4 and 9: mostly none.
+fn some_other_refusals(rng: &mut Rng) -> Vec<u32> {
+    let any = |rng: &mut Rng| rng.pick(&[1, 2, 5, 5, 6, 6, 7, 7]);
+    match rng.below(20) {
+        0..=12 => vec![],
+        13..=16 => vec![any(rng)],
+        _ => vec![any(rng), any(rng)],
+    }
+}
+
+/// A map with touching free fragments, changed cross checks and changed zone checks, each
+/// of these alone, some of them together, or none (R-9 of document 02). Some are damaged
+/// otherwise too.
+pub fn map_to_mend(rng: &mut Rng, largest_map: usize) -> Vec<u8> {
+    let record = disc_record(rng, largest_map);
+    let mut map = valid_map(rng, &record);
+    let sector_size = 1usize << record.log2secsize;
+    let [touching, crossed, stale] = match rng.below(12) {
+        0 => [false; 3],
+        1 | 2 => [true, false, false],
+        3 => [false, true, false],
+        4 => [false, false, true],
+        5 | 6 => [true, true, true],
+        _ => [rng.percent(70), rng.percent(50), rng.percent(50)],
+    };
+    if touching {
+        map = with_holes_cut(&map, |geometry, total| some_cut(rng, geometry, total));
+    }
+    let others = some_other_refusals(rng);
+    damage(rng, &mut map, &others);
+    if crossed {
+        change_cross_checks(rng, &mut map, sector_size);
+    }
+    if stale {
+        change_zone_checks(rng, &mut map, sector_size);
+    }
+    map
+}
+
+/// Room around what a number of positions takes.
+fn room_for_positions(rng: &mut Rng, positions: usize, largest: usize) -> Vec<u32> {
+    let entries = match rng.below(8) {
+        0 => 0,
+        1 | 2 => positions.saturating_sub(1),
+        3 | 4 => positions,
+        5 => positions + 1,
+        6 => positions / 2,
+        _ => positions + rng.below(20),
+    };
+    room(rng, entries.min(largest))
+}
+
+/// Plays the calls that mend a map of one seed, beside those of `play`: on a map to mend,
+/// and where that is mended, a check, the free spans and each edit on what it became.
+pub fn play_mends(seed: u64, sizes: &Sizes, visit: &mut dyn FnMut(&Case, &Outcome)) {
+    // None of the maps that the other plays make.
+    let mut earlier = Rng::new(seed);
+    earlier.word();
+    let mut rng = Rng::new(earlier.word());
+    let rng = &mut rng;
+    let largest_map = match rng.below(50) {
+        0 => sizes.map,
+        1..=5 => sizes.map.min(8_192),
+        _ => sizes.map.min(2_048),
+    };
+    let map = map_to_mend(rng, largest_map);
+    let case = Case::new(Call::Mend, &map);
+    let mended = case.run();
+    visit(&case, &mended);
+    let changed = (0..map.len()).filter(|at| mended.map[*at] != map[*at]);
+    let positions = changed.count();
+    for _ in 0..2 {
+        let mut case = Case::new(Call::MendPositions, &map);
+        case.list = room_for_positions(rng, positions, sizes.list);
+        visit(&case, &case.run());
+    }
+    if mended.number != 0 {
+        return;
+    }
+    for call in [
+        Call::Check,
+        Call::Free,
+        Call::Release,
+        Call::Place,
+        Call::Claim,
+    ] {
+        let case = arguments(rng, call, &mended.map, sizes, &Memory::new());
         visit(&case, &case.run());
     }
 }

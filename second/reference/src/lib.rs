@@ -13,6 +13,7 @@ pub mod generate;
 pub mod geometry;
 pub mod lines;
 pub mod map;
+pub mod mend;
 pub mod read;
 
 /// A numbered refusal and the zone told with it

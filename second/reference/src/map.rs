@@ -29,7 +29,8 @@ impl Fragment {
     }
 }
 
-/// An accepted map: its geometry and the fragments of each zone, ascending.
+/// An accepted map, or one that is right but for its checks: its geometry and the
+/// fragments of each zone, ascending.
 #[derive(Clone, Debug, PartialEq, Eq)]
 pub struct CheckedMap {
     pub geometry: Geometry,
@@ -172,6 +173,19 @@ pub fn block_mut(map: &mut [u8], sector_size: usize, zone: usize) -> &mut [u8] {
 /// Checks a map. Order: 1 (under 64), 2, 1, 3 over all zones, 4; then zone by
 /// zone 6, 5, 7.
 pub fn check(map: &[u8]) -> Result<CheckedMap, Refusal> {
+    check_blocks(accepted_record(map)?, map)
+}
+
+/// Checks a map with 3 and 4 ignored (R-9 of document 02): 1 (under 64), 2, 1; then
+/// zone by zone 6, 5, 7. That free fragments touch is no matter to either check.
+pub fn check_but_for_checks(map: &[u8]) -> Result<CheckedMap, Refusal> {
+    let geometry = accepted_record(map)?;
+    has_length_of(&geometry, map)?;
+    fragments_of(geometry, map)
+}
+
+/// The geometry of a map whose record is accepted: refusals 1 (under 64) and 2.
+fn accepted_record(map: &[u8]) -> Result<Geometry, Refusal> {
     if map.len() < 64 {
         return Err(Refusal::plain(1));
     }
@@ -182,7 +196,7 @@ pub fn check(map: &[u8]) -> Result<CheckedMap, Refusal> {
     if geometry.edition == Edition::E && !reserved_bytes_are_0(map) {
         return Err(Refusal::plain(2));
     }
-    check_blocks(geometry, map)
+    Ok(geometry)
 }
 
 /// Whether nothing but the reserved bytes after the disc record is wrong with a
@@ -200,10 +214,21 @@ pub fn only_reserved_bytes_are_wrong(map: &[u8]) -> bool {
 
 /// Checks a map whose record was accepted, from its length on.
 fn check_blocks(geometry: Geometry, map: &[u8]) -> Result<CheckedMap, Refusal> {
+    has_length_of(&geometry, map)?;
+    checks_are_right(&geometry, map)?;
+    fragments_of(geometry, map)
+}
+
+/// The length of a map whose record was accepted (refusal 1).
+fn has_length_of(geometry: &Geometry, map: &[u8]) -> Result<(), Refusal> {
     if map.len() != geometry.nzones * geometry.sector_size {
         return Err(Refusal::plain(1));
     }
+    Ok(())
+}
 
+/// The zone checks and the cross checks (refusals 3 and 4).
+fn checks_are_right(geometry: &Geometry, map: &[u8]) -> Result<(), Refusal> {
     let mut cross_check = 0;
     for zone in 0..geometry.nzones {
         let block = block(map, geometry.sector_size, zone);
@@ -215,7 +240,11 @@ fn check_blocks(geometry: Geometry, map: &[u8]) -> Result<CheckedMap, Refusal> {
     if cross_check != 255 {
         return Err(Refusal::plain(4));
     }
+    Ok(())
+}
 
+/// The fragments of all zones, zone by zone (refusals 6, 5 and 7).
+fn fragments_of(geometry: Geometry, map: &[u8]) -> Result<CheckedMap, Refusal> {
     let mut zones = Vec::new();
     for zone in 0..geometry.nzones {
         let block = block(map, geometry.sector_size, zone);

@@ -14,7 +14,7 @@ use std::process::ExitCode;
 use maps::{subjects, Subject};
 use painted::Painted;
 use reference::case::{Case, Outcome, CALLS};
-use reference::generate::{play, play_claims, play_copies, play_pieces, Sizes};
+use reference::generate::{play, play_claims, play_copies, play_mends, play_pieces, Sizes};
 use reference::geometry::LARGEST_MAP;
 
 const HEADER: &str = include_str!("../../../include/shoalswift.h");
@@ -93,6 +93,7 @@ fn measured() -> Vec<Row> {
         play_claims(seed, &sizes, &mut visit);
         play_pieces(seed, &sizes, &mut visit);
         play_copies(seed, &sizes, &mut visit);
+        play_mends(seed, &sizes, &mut visit);
     }
     rows
 }

@@ -2,7 +2,7 @@
 //! can be. E+ discs (R-12 of document 02) have longer ids and more zones.
 
 use reference::case::{Call, Case, CALLS_ON_ONE_MAP};
-use reference::generate::{build, map_of_packed_ids, repair_zone_checks};
+use reference::generate::{build, map_of_packed_ids, repair_zone_checks, worn};
 use reference::geometry::{DiscRecord, Edition, Geometry};
 use reference::map::{check, Owner};
 
@@ -227,6 +227,38 @@ fn calls_on_copies(geometry: &Geometry, map: &[u8]) -> Vec<Case> {
     cases
 }
 
+/// The calls that mend a map (R-9 of document 02): one in order, and one in the worst
+/// order, as it is and with the object released, so that rows are as long as a zone; with
+/// room for all positions, with an entry too few, and where the last closing bit is gone.
+fn mends(geometry: &Geometry, map: &[u8]) -> Vec<Case> {
+    let mut release = Case::new(Call::Release, map);
+    release.number = OBJECT;
+    release.list = vec![0; 2 * geometry.ids()];
+    let mut cases = Vec::new();
+    for map in [map.to_vec(), worn(map), worn(&release.run().map)] {
+        cases.extend(both_mends(&map));
+    }
+    let mut open = worn(map);
+    open[map.len() - 1] &= 0x7F;
+    let refused = Case::new(Call::Mend, &open);
+    assert_eq!(refused.run().number, 6, "the closing bit is cleared");
+    cases.extend(both_mends(&open));
+    cases
+}
+
+/// Both calls, the second twice.
+fn both_mends(map: &[u8]) -> [Case; 3] {
+    let positions = |entries: usize| {
+        let mut case = Case::new(Call::MendPositions, map);
+        case.list = vec![0; entries];
+        case
+    };
+    let all = positions(map.len());
+    let count = all.run().values[0] as usize;
+    let mend = Case::new(Call::Mend, map);
+    [mend, all, positions(count.saturating_sub(1))]
+}
+
 /// Every call, on every map. That of the most ids is large, and has one layout.
 pub fn subjects() -> Vec<Subject> {
     let mut subjects = Vec::new();
@@ -276,6 +308,7 @@ fn on_map(record: &DiscRecord, (who, layout): (&str, Layout)) -> Vec<Subject> {
     let map = build(record, &zones);
     let mut cases = calls(&geometry, &map);
     cases.extend(calls_on_copies(&geometry, &map));
+    cases.extend(mends(&geometry, &map));
     let subject = |case| Subject {
         on: on.clone(),
         case,

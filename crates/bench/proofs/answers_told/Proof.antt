@@ -1,11 +1,13 @@
 -- Each promise says which definition its numbers and its bytes equal; a refusal or a value found decides what that comes to.
-use mathlib.Core.Path.{_≡_, refl, sym, ap, _∙_}
+use mathlib.Core.Path.{_≡_, refl, sym, ap, _∙_, subst⁻¹}
 use mathlib.Core.Bool.{Bool, cond}
 use mathlib.Core.List.{List, _++_}
-use Prim.Native.Nat.{ℕ, _+_, _*_}
+use mathlib.Core.Logic.{_↔_}
+use Prim.Native.Nat.{ℕ, _+_, _*_, _<_}
 use native.Mathlib.Omega.{arith}
-use lib.ListN.{length, take, drop, length-append}
+use lib.ListN.{length, getD, take, drop, length-append}
 use lib.Seq.{take-at, drop-at}
+use Rattle.bits.specs.Bits.{Bytes}
 use Rattle.bits.proofs.Tests.{by-test}
 use Rattle.model.specs.Answer.{Answer, refused, answered}
 use Rattle.model.specs.Chain.{Pair, numbersOf}
@@ -20,6 +22,7 @@ use Rattle.edits.specs.Edits.{Edit, takes, gives}
 use Rattle.edits.specs.Judge.{release, place, claim}
 use Rattle.edits.specs.Steps.{outcome, pairsTold, bytesAfter, step}
 use Rattle.edits.specs.Editable.{Editable}
+use Rattle.edits.specs.Room.{In}
 use Rattle.release.specs.Released.{Releases}
 use Rattle.place.specs.Placed.{Places, placeTold}
 use Rattle.place.specs.declared.Placed.{Placed}
@@ -29,7 +32,13 @@ use Rattle.runs.proofs.StepLaws.{release-place, given-release}
 use Rattle.copies.specs.Copies.{Copy, first, second, copyFound, partOf, sameBytes, choiceTold, Chooses, copyTold, targetAfter, addressesTold}
 use Rattle.copies.proofs.SameBytes.{equal-exactly}
 use Rattle.copies.proofs.Over.{copy-by-table}
-use Rattle.bench.specs.Tells.{ListTells, ReleaseTells, ClaimTells, ChoiceTells}
+use Rattle.mended.specs.Mended.{changedAt, positionsFound}
+use Rattle.mended.proofs.InOrder.{refused-stays}
+use Rattle.mended.proofs.Positions.{positions-listed, positions-exact}
+use Rattle.mend.specs.Mends.{mendTold, Mending, positionsTold, positionsAfter, ListsChanges}
+use Rattle.mend.specs.declared.Mended.{Mended}
+use Rattle.mend.specs.declared.Changes.{Changes}
+use Rattle.bench.specs.Tells.{ListTells, ReleaseTells, ClaimTells, ChoiceTells, PositionsTells}
 use Rattle.bench.proofs.answers_told.Statement.{statement}
 use Rattle.bench.proofs.answers_told.Tie as tie
 
@@ -81,6 +90,21 @@ released-back m ed size parent old r after new p id qs e s end list q =
     let k : drop (2 * length qs) new ≡ drop (2 * length qs) old = ap (drop (2 * length qs)) (t .1) ∙ drop-at (numbersOf qs) (drop (2 * length qs) old) (2 * length qs) (length-numbers qs) in
     (l .0, l .1 ∙ ap (λ (x : List ℕ). numbersOf qs ++ x) k ∙ sym (t .1), q .bytes ∙ v .1)
 
+changed : (m old : List ℕ) (r : Changes) (new : List ℕ) → ListsChanges m old r new → PositionsTells (positionsFound m (length old)) old r new
+changed m old r new p = record {
+  refused-told = λ n z e. (p .numbers ∙ ap positionsTold e, p .list ∙ ap (positionsAfter old) e);
+  accepted-told = λ ps e. (p .numbers ∙ ap positionsTold e, p .list ∙ ap (positionsAfter old) e);
+}
+
+listed-changed : (m old : List ℕ) (r : Changes) (new : List ℕ) → ListsChanges m old r new → (ps : List ℕ) → positionsFound m (length old) ≡ answered ps
+    → (s : Mended) (after : List ℕ) → Mending m s after → Bytes m
+    → (i : ℕ) → In i (take (length ps) new) ↔ ((i < length m) × (getD m i 0 ≡ getD after i 0 → ⊥))
+listed-changed m old r new p ps e s after q bytes i =
+    let list : take (length ps) new ≡ changedAt m =
+    ap (take (length ps)) (changed m old r new p .accepted-told ps e .1) ∙ take-at ps (drop (length ps) old) (length ps) refl ∙ positions-listed m (length old) ps e in
+    subst⁻¹ (λ (x : List ℕ). In i x ↔ ((i < length m) × (getD m i 0 ≡ getD after i 0 → ⊥))) list
+    (subst⁻¹ (λ (x : List ℕ). In i (changedAt m) ↔ ((i < length m) × (getD m i 0 ≡ getD x i 0 → ⊥))) (q .bytes) (positions-exact m bytes i))
+
 -- the equality is told by itself: told numbers differ in it alone
 chosen : (a b : List ℕ) (told : ℕ × ℕ × ℕ × ℕ) (handed : List ℕ) → Chooses a b told handed → ChoiceTells a b told handed
 chosen a b told handed p =
@@ -120,6 +144,12 @@ returns c = record {
     refused-told = λ n z e. (p .numbers ∙ ap copyTold e, p .bytes ∙ ap (targetAfter target) e);
     accepted-told = λ bytes e. (p .numbers ∙ ap copyTold e, p .bytes ∙ ap (targetAfter target) e ∙ table-answered (copy-by-table source target) e .value);
   };
+  mends = λ m r after p. record {
+    refused-told = λ n z e. (p .numbers ∙ ap mendTold e, p .bytes ∙ refused-stays m n z e);
+    accepted-told = λ ess e. p .numbers ∙ ap mendTold e;
+  };
+  positions = changed;
+  listed-changed = listed-changed;
   locates = λ m r p. record { refused-told = λ n z e. p .numbers ∙ ap addressesTold e; accepted-told = λ l e. p .numbers ∙ ap addressesTold e };
   returned-placed = λ m ed id old r after new p qs e s end q.
       (let t = placed-back m ed id old r after new p qs e s end q in (q .numbers ∙ ap placeTold (t .0), t .1));

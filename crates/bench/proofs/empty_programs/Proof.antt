@@ -3,7 +3,7 @@ use mathlib.Core.Path.{_≡_, sym, ap, _∙_}
 use mathlib.Core.List.{List, [], _∷_}
 use Prim.Native.Nat.{ℕ}
 use native.Mathlib.Omega.{arith}
-use lib.ListN.{getD}
+use lib.ListN.{getD, drop}
 use Rattle.checks.specs.Words.{zoneCheck, wordsOf, total}
 use Rattle.checks.specs.Maps.{mapA, mapB, mapD}
 use Rattle.geometry.specs.declared.Geometry.{Geometry}
@@ -19,6 +19,10 @@ use Rattle.claim.specs.declared.Claimed.the-variants as taken
 use Rattle.copies.specs.declared.Copied.the-variants as copied
 use Rattle.copies.specs.declared.Addresses.{Addresses}
 use Rattle.copies.specs.declared.Located.the-variants as located
+use Rattle.mend.specs.declared.Mended.the-variants as mended
+use Rattle.mend.specs.declared.Changes.{Changes}
+use Rattle.mend.specs.declared.Changes.the-variants as changes
+use Rattle.bench.specs.Table.{touchingD}
 use Rattle.bench.proofs.empty_programs.Statement.{statement}
 use Rattle.bench.proofs.empty_programs.Tie as tie
 
@@ -46,6 +50,20 @@ copied-refused e = let z : _≡_ {A = ℕ} 0 1 = cc in omega arith
 
 located-refused : {l : Addresses} {r : Refusal} → located.At l ≡ located.Refused r → ⊥
 located-refused e = let z : _≡_ {A = ℕ} 0 1 = cc in omega arith
+
+mended-refused : {r : Refusal} → mended.Done ≡ mended.Refused r → ⊥
+mended-refused e = let z : _≡_ {A = ℕ} 0 1 = cc in omega arith
+
+positions-refused : {n : ℕ} {r : Refusal} → changes.Positions n ≡ changes.Refused r → ⊥
+positions-refused e = let z : _≡_ {A = ℕ} 0 1 = cc in omega arith
+
+-- how many positions
+abbrev listed-many : Changes → ℕ
+listed-many (changes.Positions n) = n
+listed-many (changes.Refused r) = 0
+
+abbrev second : List ℕ → ℕ
+second l = getD l 1 0
 
 -- four bytes of a stretch
 abbrev four : List ℕ
@@ -145,6 +163,18 @@ returns c =
         refuses = λ h. located-refused (sym (h mapA tt .2 .answer));
         one-answer = λ h. let k = h tt .1 in located-refused (sym (k mapA .1 .answer) ∙ k [] .1 .answer);
       };
+      mend = record {
+        refuses = λ h. mended-refused (sym (h mapA tt .2 .answer));
+        one-answer = λ h. let k = h tt .1 in mended-refused (sym (k mapA .1 .answer) ∙ k [] .1 .answer);
+      };
+      mend-writes-nothing = λ h. let e : _≡_ {A = ℕ} 111 46 = ap (λ (l : List ℕ). getD l 256 0) (h touchingD tt .1 .bytes) in omega arith;
+      mend-keeps-bits = λ h. let k = h touchingD tt in let e : _≡_ {A = ℕ} 8 200 = ap second (ap (drop 260) (sym (k .2 .bytes)) ∙ k .3) in omega arith;
+      positions = record {
+        refuses = λ h. positions-refused (sym (h mapA lent .2 .answer));
+        one-answer = λ h. let k = h lent .1 in positions-refused (sym (k mapA .1 .answer) ∙ k [] .1 .answer);
+      };
+      positions-written-never = λ h. let e : _≡_ {A = ℕ} 1 256 = ap (λ (l : List ℕ). getD l 0 0) (h touchingD four .1 .list) in omega arith;
+      positions-of-all = λ h. let k = h mapA lent in let e : _≡_ {A = ℕ} 256 0 = sym (ap listed-many (k .3)) ∙ ap listed-many (k .2 .answer) in omega arith;
     }
 
 pub empty-programs-spec : {M : Type 1} → statement M

@@ -118,6 +118,16 @@ impl Cases {
     pub fn copy_addresses(&mut self, map: &[u8]) -> Answer {
         self.add(Case::new(Call::CopyAddresses, map))
     }
+
+    pub fn mend(&mut self, map: &[u8]) -> Answer {
+        self.add(Case::new(Call::Mend, map))
+    }
+
+    pub fn mend_positions(&mut self, map: &[u8], entries: usize) -> Answer {
+        let mut case = Case::new(Call::MendPositions, map);
+        case.list = vec![OLD_ENTRY; entries];
+        self.add(case)
+    }
 }
 
 /// A case as the library answered it.
@@ -204,6 +214,22 @@ impl Answer {
     pub fn neither(self, number: u32, zone: u32, equal: bool) {
         self.told(number, zone);
         assert_eq!(self.outcome.values, [0, equal as u64]);
+    }
+
+    /// A mend is accepted and leaves this map.
+    #[track_caller]
+    pub fn leaves(self, map: &[u8]) {
+        assert!(self.done() == map);
+    }
+
+    /// Positions are answered, and no entry past them is written.
+    #[track_caller]
+    pub fn lists(self, positions: &[u32]) {
+        self.gives(0);
+        assert_eq!(self.outcome.values, [positions.len() as u64]);
+        let (listed, past) = self.outcome.list.split_at(positions.len());
+        assert_eq!(listed, positions);
+        assert!(past.iter().all(|entry| *entry == OLD_ENTRY));
     }
 
     /// The target is the source now.

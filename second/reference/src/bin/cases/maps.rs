@@ -322,16 +322,17 @@ pub fn three_zones() -> Vec<u8> {
     build(&three_zones_record(), &three_zones_parts())
 }
 
+pub fn touching_parts() -> [Parts; 3] {
+    [
+        vec![object(7, 20), free(1_000), object(8, 516)],
+        vec![object(2, 12), object(7, 20), free(984), free(1_000)],
+        vec![free(500), free(500), object(7, 900), object(1, 116)],
+    ]
+}
+
 /// The same zones with free fragments that touch, in zones 1 and 2.
 pub fn touching_free() -> Vec<u8> {
-    build(
-        &three_zones_record(),
-        &[
-            vec![object(7, 20), free(1_000), object(8, 516)],
-            vec![object(2, 12), object(7, 20), free(984), free(1_000)],
-            vec![free(500), free(500), object(7, 900), object(1, 116)],
-        ],
-    )
+    build(&three_zones_record(), &touching_parts())
 }
 
 // ------------------------------------------------- damage to `three_zones`

@@ -3,7 +3,7 @@
 use std::collections::BTreeMap;
 
 use reference::case::{Call, Case, Outcome};
-use reference::generate::{play, Sizes};
+use reference::generate::{play, play_mends, Sizes};
 
 /// The largest map the seeds are played with. The larger ones there are would
 /// take up most of what is stored; some are written out, in `zones`.
@@ -44,6 +44,32 @@ pub fn from_seeds(sizes: &Sizes) -> Vec<Case> {
                 } else {
                     *larger.entry(case.call).or_insert(0) += 1;
                 }
+                of_seed += 1;
+                taken.push(case.clone());
+            }
+        });
+    }
+    taken
+}
+
+/// A small case for each refusal of the two calls that mend a map (R-9 of document 02),
+/// and a few accepted ones of each that change something.
+pub fn mends_from_seeds(sizes: &Sizes) -> Vec<Case> {
+    let mut taken = Vec::new();
+    let mut times: BTreeMap<(Call, u32), usize> = BTreeMap::new();
+    for seed in 1_000..3_000 {
+        // One case of a seed, so that the maps differ.
+        let mut of_seed = 0;
+        play_mends(seed, sizes, &mut |case: &Case, outcome: &Outcome| {
+            let in_order = outcome.number == 0
+                && outcome.map == case.map
+                && outcome.values.iter().all(|value| *value == 0);
+            let wanted = if outcome.number == 0 { 3 } else { 1 };
+            let count = times.entry((case.call, outcome.number)).or_insert(0);
+            // No bytes at all are written out.
+            let small = !case.map.is_empty() && case.bytes().len() <= 1_600;
+            if case.call.mends() && !in_order && small && *count < wanted && of_seed < 1 {
+                *count += 1;
                 of_seed += 1;
                 taken.push(case.clone());
             }

@@ -1,0 +1,2 @@
+pub mod Mends
+pub mod Zones

@@ -1,0 +1,9 @@
+pub mod Judged
+pub mod CrossMended
+pub mod Differing
+pub mod NeverNine
+pub mod ZoneFree
+pub mod ZonesFree
+pub mod MapMended
+pub mod InOrder
+pub mod Positions

@@ -1,0 +1,3 @@
+pub mod Mended
+pub mod Table
+pub mod Laws
