@@ -53,6 +53,7 @@ pub fn mend_positions(map: &[u8], list: &mut [u32]) -> Changes
     match map::check_zones(map) {
         Checked::Refused(r) => Changes::Refused(r),
         Checked::Accepted(g) => {
+            // Lent no entries, it counts and writes nothing.
             let n = list_changes(map, g, &mut list[0..0]);
             if list.len() < n {
                 return Changes::Refused(refuse(17));
