@@ -23,7 +23,7 @@ use Rattle.model.specs.Check.{zonesRead, blocksOf, mapRead}
 use Rattle.model.proofs.ChainDrawn.{Lies}
 use Rattle.model.proofs.ZoneTests.{zone-tests}
 use Rattle.model.proofs.LinesJudged.{same-answer}
-use Rattle.model.proofs.MapTests.{read-tests, accepted-tests}
+use Rattle.model.proofs.MapTests.{zone-and-rest, read-tests, accepted-tests}
 use Rattle.edits.specs.Edits.{inZone}
 use Rattle.edits.specs.Holes.{hole, holes, holesIn, holesFrom}
 use Rattle.edits.proofs.Kept.{all-append}
@@ -31,7 +31,7 @@ use Rattle.edits.proofs.Slices.{Sized, sized-blocks, length-blocks}
 use Rattle.edits.proofs.ZonePlaces.{zoneOfPiece, zone-from, zone-end, zone-low, zone-bits, disc-zone}
 use Rattle.edits.proofs.Gathered.{all-map, FromZone, in-zone-part, later-part}
 use Rattle.edits.proofs.ZoneFound.{drawn-zone}
-use Rattle.edits.proofs.MapAccepted.{zone-and-rest, apart-and-rest}
+use Rattle.edits.proofs.MapAccepted.{apart-and-rest}
 
 -- the gaps of a drawing are its free fragments
 free-gap : (at end : ℕ) (es : List Entry) → freeOf (gapEntry at end es) ≡ hole at end (freeOf es)

@@ -19,11 +19,11 @@ use Rattle.geometry.proofs.Numbers.{test-gives-accepted}
 use Rattle.model.specs.Chain.{Entry, noneTouch, touching}
 use Rattle.model.specs.Blocks.{flat}
 use Rattle.model.specs.Pieces.{piecesOfZones}
-use Rattle.model.specs.Answer.{Answer, refused, answered}
-use Rattle.model.specs.Check.{joinZone, zoneRead, zonesRead, differing, blocksOf, mapRead, mendRead}
+use Rattle.model.specs.Answer.{answered}
+use Rattle.model.specs.Check.{zonesRead, differing, blocksOf, mapRead, mendRead}
 use Rattle.model.proofs.Options.{none-some}
-use Rattle.model.proofs.LinesJudged.{not-answered, same-answer}
-use Rattle.model.proofs.MapTests.{ReadTests, read-tests, AcceptedTests, accepted-tests}
+use Rattle.model.proofs.LinesJudged.{same-answer}
+use Rattle.model.proofs.MapTests.{zone-and-rest, ReadTests, read-tests, AcceptedTests, accepted-tests}
 use Rattle.edits.specs.Steps.{discOf}
 use Rattle.edits.proofs.Slices.{Sized, EachBytes, flat-blocks, sized-blocks, length-blocks, each-bytes}
 use Rattle.edits.proofs.ZoneFound.{pieces-read, zone-found}
@@ -33,17 +33,7 @@ use Rattle.edits.proofs.PiecesKept.{AcceptedPieces}
 use Rattle.edits.proofs.DiscKept.{AcceptedDisc}
 use Rattle.edits.proofs.StepWritten.{MapOf, writtenMap}
 
--- a zone and those after it: each was read, and in none do two free fragments touch
-pub zone-and-rest : (g : Geometry) (z : ℕ) (b : List ℕ) (bs : List (List ℕ)) (ess : List (List Entry)) → zonesRead g z (b ∷ bs) ≡ answered ess
-    → (es : List Entry) × (ds : List (List Entry)) × (zoneRead g z b ≡ answered es) × (zonesRead g (suc z) bs ≡ answered ds) × (es ∷ ds ≡ ess)
-zone-and-rest g z b bs ess h = go (zoneRead g z b) refl (zonesRead g (suc z) bs) refl h
-  where
-    go : (v : Answer (List Entry)) → zoneRead g z b ≡ v → (q : Answer (List (List Entry))) → zonesRead g (suc z) bs ≡ q → joinZone v q ≡ answered ess
-        → (es : List Entry) × (ds : List (List Entry)) × (zoneRead g z b ≡ answered es) × (zonesRead g (suc z) bs ≡ answered ds) × (es ∷ ds ≡ ess)
-    go (refused n a) e q f h = absurd (not-answered h)
-    go (answered es) e (refused n a) f h = absurd (not-answered h)
-    go (answered es) e (answered ds) f h = (es, ds, e, f, same-answer h)
-
+-- in neither a zone nor those after it do two free fragments touch
 pub apart-and-rest : (j : ℕ) (es : List Entry) (ds : List (List Entry)) → touching j (es ∷ ds) ≡ none → (noneTouch false es ≡ true) × (touching (suc j) ds ≡ none)
 apart-and-rest j es ds t = by-test (noneTouch false es) (λ u. (u, simp u at t)) (λ u. absurd (none-some (sym (simp u at t))))
 

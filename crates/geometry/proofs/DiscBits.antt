@@ -69,3 +69,7 @@ module _ (g : Geometry) (ok : AcceptedGeometry g) where
       let next : suc z * g .bits ≡ z * g .bits + g .bits = suc-mul z (g .bits) in
       let up : suc z * g .bits ≤ g .zones * g .bits = mul-le-mul-right (g .bits) n in
       omega arith
+
+-- the bytes of a map
+pub map-small : (g : Geometry) → AcceptedGeometry g → g .zones * g .sector ≤ 67107840
+map-small g ok = let h : g .zones ≤ 65535 = omega (arith, ok .zones-high) in mul-le-mul h (ok .sector-high)

@@ -1,5 +1,5 @@
--- An accepted map: its record, its length and its zones hold, and each zone in turn is read, with the entries that the check read.
--- The answer is taken apart test by test, since a refusal is no acceptance.
+-- An accepted map, and one that the mender mends: its record, its length and its zones hold (`MapTests`), and each zone in turn is read, with
+-- the entries that were read of the whole map.
 use mathlib.Core.Path.{_≡_, refl, sym, ap, _∙_, subst, subst⁻¹}
 use mathlib.Core.List.{List, [], _∷_, cons≢nil}
 use Prim.Native.Nat.{ℕ, zero, suc, _+_, _<_, _≤_}
@@ -15,12 +15,11 @@ use Rattle.model.specs.Chain.{Entry}
 use Rattle.model.specs.Blocks.{blockAt}
 use Rattle.model.specs.Rules.{zoneBlock}
 use Rattle.model.specs.Answer.{Answer, refused, answered}
-use Rattle.model.specs.Check.{zoneRead, joinZone, zonesRead, blocksOf, mapRead, mendRead}
+use Rattle.model.specs.Check.{zoneRead, zonesRead, blocksOf, mapRead, mendRead}
 use Rattle.map.specs.Checked.{checkAnswer, checked, mendChecked}
 use Rattle.map.specs.Accepted.{ReadableFrom, AcceptedMap, MendableMap}
 use Rattle.map.specs.declared.Checked.the-variants.{Accepted}
-use Rattle.model.proofs.LinesJudged.{not-answered}
-use Rattle.model.proofs.MapTests.{read-tests, accepted-tests}
+use Rattle.model.proofs.MapTests.{zone-and-rest, read-tests, accepted-tests}
 use Rattle.model.proofs.ByPlace.{restFrom, rest-cons, rest-none, rest-all}
 use Rattle.zone.specs.Lines.{entriesIn, IsRead}
 use Rattle.zone.proofs.EntriesRead.{is-read}
@@ -30,12 +29,6 @@ answer-parts g k (refused n i) e = let x : _≡_ {A = ℕ} 0 1 = cc in absurd (o
 answer-parts g k (answered ess) e = (ess, refl, cc)
 
 -- the zones walked: each is read, and what is left of the map's entries are those of the zones to come
-join-parts : (r : Answer (List Entry)) (q : Answer (List (List Entry))) (ess : List (List Entry)) → joinZone r q ≡ answered ess
-    → (es : List Entry) × (fss : List (List Entry)) × (ess ≡ es ∷ fss) × (r ≡ answered es) × (q ≡ answered fss)
-join-parts (refused n i) q ess e = absurd (not-answered e)
-join-parts (answered es) (refused n i) ess e = absurd (not-answered e)
-join-parts (answered es) (answered fss) ess e = (es, fss, cc, refl, refl)
-
 module _ (m : List ℕ) (g : Geometry) where
   abbrev ReadFrom : ℕ → List (List Entry) → Type 0
   ReadFrom z ess = zonesRead g z (restFrom m (g .zones) (g .sector) z) ≡ answered ess
@@ -47,9 +40,8 @@ module _ (m : List ℕ) (g : Geometry) where
       → (es : List Entry) × (fss : List (List Entry)) × (ess ≡ es ∷ fss) × (zoneRead g z (blockAt (g .sector) z m) ≡ answered es) × ReadFrom (z + 1) fss
   from-turn z h ess f =
       let s : suc z ≡ z + 1 = omega arith in
-      let t = join-parts (zoneRead g z (blockAt (g .sector) z m)) (zonesRead g (suc z) (restFrom m (g .zones) (g .sector) (z + 1))) ess
-      (sym (ap (zonesRead g z) (rest-cons m (g .zones) (g .sector) z h)) ∙ f) in
-      (t .0, t .1, t .2, t .3, subst (λ (i : ℕ). zonesRead g i (restFrom m (g .zones) (g .sector) (z + 1)) ≡ answered (t .1)) s (t .4))
+      let t = zone-and-rest g z (blockAt (g .sector) z m) (restFrom m (g .zones) (g .sector) (z + 1)) ess (sym (ap (zonesRead g z) (rest-cons m (g .zones) (g .sector) z h)) ∙ f) in
+      (t .0, t .1, sym (t .4), t .2, subst (λ (i : ℕ). zonesRead g i (restFrom m (g .zones) (g .sector) (z + 1)) ≡ answered (t .1)) s (t .3))
 
   from-end : (z : ℕ) → g .zones ≤ z → (ess : List (List Entry)) → ReadFrom z ess → ess ≡ []
   from-end z h ess f =

@@ -3,13 +3,14 @@
 use mathlib.Core.Path.{_≡_, refl, sym, ap, _∙_, subst}
 use mathlib.Core.List.{List, _++_}
 use Prim.Native.Nat.{ℕ, _+_, _-_, _*_, _^_, _<_, _≤_}
-use native.Mathlib.Nat.{mul-le-mul, mul-le-mul-right, zero-mul, zero-add}
+use native.Mathlib.Nat.{mul-le-mul-right, zero-mul, zero-add}
 use native.Mathlib.Omega.{arith}
 use lib.ListN.{length, take}
 use lib.Seq.{sets, take-add, take-at, length-take-le}
 use Rattle.bits.specs.Bits.{Bytes}
 use Rattle.geometry.specs.declared.Geometry.{Geometry}
 use Rattle.geometry.specs.Accepted.{AcceptedGeometry}
+use Rattle.geometry.proofs.DiscBits.{map-small}
 use Rattle.model.specs.Rules.{zoneBlock}
 use Rattle.model.proofs.ByPlace.{zone-end, block-length}
 use Rattle.map.specs.Accepted.{MendableMap}
@@ -32,9 +33,6 @@ pub buffer-part : {g : Geometry} → AcceptedGeometry g → (buffer : List ℕ) 
 buffer-part {g} ok buffer e = let h : g .sector - 0 ≡ g .sector = omega arith in length-take-le (g .sector - 0) buffer (omega (arith, ok .sector-high)) ∙ h
 
 -- every position of the map is a 32-bit number
-map-small : (g : Geometry) → AcceptedGeometry g → g .zones * g .sector < 2 ^ 32
-map-small g ok = let h : g .zones ≤ 65535 = omega (arith, ok .zones-high) in omega (arith, mul-le-mul h (ok .sector-high))
-
 pub block-low : {g : Geometry} {z : ℕ} → AcceptedGeometry g → z < g .zones → z * g .sector + g .sector < 2 ^ 32
 block-low {g} {z} ok h = omega (arith, zone-end (g .zones) (g .sector) z h, map-small g ok)
 

@@ -15,11 +15,11 @@ use Rattle.model.specs.Check.{zonesRead}
 use Rattle.model.specs.Drawing.{drawnEntries}
 use Rattle.model.specs.Pieces.{Piece, ownedOf, toDisc, pieceToDisc, freeOf, freeSpans}
 use Rattle.model.proofs.LinesJudged.{same-answer}
+use Rattle.model.proofs.MapTests.{zone-and-rest}
 use Rattle.edits.specs.Edits.{inZone}
 use Rattle.edits.specs.Room.{In, InSome}
 use Rattle.edits.specs.Written.{toBlock}
 use Rattle.edits.proofs.Entries.{in-append, in-left, in-right}
-use Rattle.edits.proofs.MapAccepted.{zone-and-rest}
 use Rattle.edits.proofs.MapWritten.{drawnZones}
 use Rattle.edits.proofs.Slices.{Sized}
 use Rattle.edits.proofs.ZoneFound.{pieces-read}

@@ -2,18 +2,19 @@
 -- check accepts is so read, and its zone checks and cross checks are right besides.
 use mathlib.Core.Path.{_≡_, refl}
 use mathlib.Core.Bool.{Bool, true, false}
-use mathlib.Core.List.{List}
+use mathlib.Core.List.{List, _∷_}
 use mathlib.Core.Option.{Option, none, some}
-use Prim.Native.Nat.{ℕ, _*_}
+use Prim.Native.Nat.{ℕ, suc, _*_}
 use lib.Dec.{eqb, leb}
 use lib.ListN.{length}
 use borrow.Author.Tests.{eqb-true}
+use Rattle.geometry.specs.declared.Geometry.{Geometry}
 use Rattle.geometry.specs.Record.{discRecord, geometryOf}
 use Rattle.geometry.specs.Ranges.{recordFits}
-use Rattle.model.specs.Answer.{Answer, answered, unless}
+use Rattle.model.specs.Answer.{Answer, refused, answered, unless}
 use Rattle.model.specs.Chain.{Entry}
-use Rattle.model.specs.Check.{zonesRead, differing, crossSum, afterChecks, blocksRead, blocksOf, lengthFits, measured, mapRead, mendRead}
-use Rattle.model.proofs.LinesJudged.{not-answered}
+use Rattle.model.specs.Check.{joinZone, zoneRead, zonesRead, differing, crossSum, afterChecks, blocksRead, blocksOf, lengthFits, measured, mapRead, mendRead}
+use Rattle.model.proofs.LinesJudged.{not-answered, same-answer}
 
 if-passed : (b : Bool) (n : ℕ) (r : Answer (List (List Entry))) (ess : List (List Entry)) → unless b n r ≡ answered ess → (b ≡ true) × (r ≡ answered ess)
 if-passed true n r ess e = (refl, e)
@@ -22,6 +23,17 @@ if-passed false n r ess e = absurd (not-answered e)
 if-checked : (o : Option ℕ) (r : Answer (List (List Entry))) (ess : List (List Entry)) → afterChecks o r ≡ answered ess → (o ≡ none) × (r ≡ answered ess)
 if-checked none r ess e = (refl, e)
 if-checked (some z) r ess e = absurd (not-answered e)
+
+-- a zone and those after it: each was read
+pub zone-and-rest : (g : Geometry) (z : ℕ) (b : List ℕ) (bs : List (List ℕ)) (ess : List (List Entry)) → zonesRead g z (b ∷ bs) ≡ answered ess
+    → (es : List Entry) × (ds : List (List Entry)) × (zoneRead g z b ≡ answered es) × (zonesRead g (suc z) bs ≡ answered ds) × (es ∷ ds ≡ ess)
+zone-and-rest g z b bs ess h = go (zoneRead g z b) refl (zonesRead g (suc z) bs) refl h
+  where
+    go : (v : Answer (List Entry)) → zoneRead g z b ≡ v → (q : Answer (List (List Entry))) → zonesRead g (suc z) bs ≡ q → joinZone v q ≡ answered ess
+        → (es : List Entry) × (ds : List (List Entry)) × (zoneRead g z b ≡ answered es) × (zonesRead g (suc z) bs ≡ answered ds) × (es ∷ ds ≡ ess)
+    go (refused n a) e q f h = absurd (not-answered h)
+    go (answered es) e (refused n a) f h = absurd (not-answered h)
+    go (answered es) e (answered ds) f h = (es, ds, e, f, same-answer h)
 
 -- the tests before the blocks, and what follows them
 record Passed (m : List ℕ) (r : Answer (List (List Entry))) (ess : List (List Entry)) : Type 0 where

@@ -29,13 +29,12 @@ use Rattle.model.proofs.FragmentsRead.{written-cut}
 use Rattle.model.proofs.ZoneDrawn.{long-fit, length-frags}
 use Rattle.model.proofs.ZoneTests.{zone-tests}
 use Rattle.model.proofs.LinesJudged.{same-answer}
-use Rattle.model.proofs.MapTests.{ReadTests, read-tests, accepted-tests}
+use Rattle.model.proofs.MapTests.{zone-and-rest, ReadTests, read-tests, accepted-tests}
 use Rattle.edits.specs.Room.{In}
 use Rattle.edits.proofs.Entries.{in-append, in-left, in-right, in-map, map-in}
 use Rattle.edits.proofs.Slices.{Sized, sized-blocks}
 use Rattle.edits.proofs.BlockBits.{alloc-length}
 use Rattle.edits.proofs.ZonePlaces.{zone-bits}
-use Rattle.edits.proofs.MapAccepted.{zone-and-rest}
 use Rattle.runs.specs.Refusals.{Touch, LowestTouch}
 
 -- the entries lie one after another from bit `at` to `end`

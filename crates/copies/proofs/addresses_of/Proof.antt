@@ -6,13 +6,10 @@ use native.Mathlib.Omega.{arith}
 use Rattle.geometry.specs.declared.Geometry.{Geometry}
 use Rattle.geometry.specs.Accepted.{AcceptedGeometry}
 use Rattle.geometry.specs.Places.{zoneFrom}
-use Rattle.geometry.proofs.DiscBits.{zone-bits-small}
+use Rattle.geometry.proofs.DiscBits.{zone-bits-small, map-small}
 use borrow.Author.Needs.{needs}
 use Rattle.copies.proofs.addresses_of.Statement.{statement}
 use Rattle.copies.proofs.addresses_of.Tie as tie
-
-map-small : (g : Geometry) → AcceptedGeometry g → g .zones * g .sector ≤ 67107840
-map-small g ok = let h : g .zones ≤ 65535 = omega (arith, ok .zones-high) in mul-le-mul h (ok .sector-high)
 
 disc-small : (g : Geometry) → AcceptedGeometry g → (d : ℕ) → d ≡ zoneFrom g (g .zones / 2) → d * g .unit ≤ 2190433320960
 disc-small g ok d e =

@@ -1,9 +1,8 @@
 -- The answers of `Answers`: the record, the length, then the blocks.
 use mathlib.Core.Path.{sym, _∙_}
-use Prim.Native.Nat.{_≤_}
-use native.Mathlib.Nat.{mul-le-mul}
 use native.Mathlib.Omega.{arith}
 use Rattle.geometry.specs.Record.{geometryOf}
+use Rattle.geometry.proofs.DiscBits.{map-small}
 use Rattle.geometry.proofs.RecordAnswers.{accepted-geometry}
 use Rattle.map.specs.Checked.{blocksReadBy}
 use Rattle.map.proofs.Answers.{record-refused, length-refused, rest-answer}
@@ -13,13 +12,10 @@ use Rattle.map.proofs.check_parts.Tie as tie
 
 mul-if1 : tie.Need-mul-if1
 mul-if1 c =
-    let d = c in
-    let m = d .before .before .before .before .before .before .args .map .now in
-    let g = d .before .before .g .given .0 .0 in
-    let e = sym (d .before .before .before .before .read-record .ensures .answer) ∙ d .before .before .g .given .1 in
-    let k = accepted-geometry m g e in
-    let l : g .zones ≤ 65536 = omega (arith, k .zones-high) in
-    omega (arith, mul-le-mul l (k .sector-high))
+    let m = c .before .before .before .before .before .before .args .map .now in
+    let g = c .before .before .g .given .0 .0 in
+    let e = sym (c .before .before .before .before .read-record .ensures .answer) ∙ c .before .before .g .given .1 in
+    omega (arith, map-small g (accepted-geometry m g e))
 
 returns : tie.Need-returns
 returns c =
