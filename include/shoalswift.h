@@ -14,8 +14,9 @@
  *  1  map shorter than 64 bytes, or not nzones*S;        10  id not on the map
  *     copy_over: lengths that differ                     11  id already on the map (place)
  *  2  record outside its ranges, or bytes of the map     12  list empty, odd, out of object order, overlapping, across zones, off
- *     not 0 that have to be (36 to 63; E+: 40 to 43)         the map, not in clusters or too short; claim of 0 bytes, or
- *  3  a zone check differs                                   with a parent zone that is not on the disc
+ *     not 0 that have to be (36 to 63; E+: 40 to 43);        the map, not in clusters or too short; claim of 0 bytes, or
+ *     format: no map can be drawn for such a disc            with a parent zone that is not on the disc
+ *  3  a zone check differs
  *  4  cross checks don't give 255                        13  a listed bit isn't free, or a leftover of 1 to m-1 free bits
  *  5  FreeLink's top bit clear, or a link that lands     14  claim: no unused id (cannot arise)
  *     on no fragment start                               15  claim: all free bits are fewer than needed
@@ -32,7 +33,7 @@
  *
  *  shoalswift_check            1024
  *  shoalswift_geometry         1024
- *  shoalswift_list             1024
+ *  shoalswift_list             1536
  *  shoalswift_free             1024
  *  shoalswift_address          1024
  *  shoalswift_sweep_object     1024
@@ -45,6 +46,8 @@
  *  shoalswift_copy_addresses   1024
  *  shoalswift_mend            12288
  *  shoalswift_mend_positions  12288
+ *  shoalswift_format           1024
+ *  shoalswift_format_length    1024
  */
 #ifndef SHOALSWIFT_H
 #define SHOALSWIFT_H
@@ -54,9 +57,9 @@
 
 /* A new major number: callers have to change. A new minor number: there is more to call. */
 #define SHOALSWIFT_VERSION_MAJOR 3
-#define SHOALSWIFT_VERSION_MINOR 1
+#define SHOALSWIFT_VERSION_MINOR 2
 #define SHOALSWIFT_VERSION_PATCH 0
-#define SHOALSWIFT_VERSION "3.1.0"
+#define SHOALSWIFT_VERSION "3.2.0"
 
 #ifdef __cplusplus
 extern "C" {
@@ -132,6 +135,17 @@ uint32_t shoalswift_mend(uint8_t *map, size_t map_len, uint32_t *zone);
 /* Writes the positions in the map, from 0 on and ascending, of the bytes that shoalswift_mend would change, an entry for each; *count is their
  * number. As shoalswift_mend, further: 17. */
 uint32_t shoalswift_mend_positions(const uint8_t *map, size_t map_len, uint32_t *list, size_t list_len, uint64_t *count, uint32_t *zone);
+
+/* Writes the map of a blank disc, whatever the buffer holds. log2secsize is 8 to 10, idlen log2secsize + 3 to 15, and capacity the disc's
+ * bytes, a multiple of the sector, up to 999 Mbytes (of 1,048,576 bytes). Bytes per map bit follow from the capacity: 256 up to 124 Mbytes, 512
+ * up to 249, 1024 up to 499, 2048 up to 999; there are as few zones as cover it. Object 2 stands at the start of the middle zone, with room
+ * for two copies of the map and for no root directory; what the map has past the disc's end is in object 1; all else is free. The map is then
+ * accepted, and no edit refuses it with 9. 2 where there is no such disc, or none whose map can be drawn; then 1 where the buffer is not as
+ * long as shoalswift_format_length tells. */
+uint32_t shoalswift_format(uint32_t log2secsize, uint64_t capacity, uint32_t idlen, uint8_t *map, size_t map_len, uint32_t *zone);
+
+/* The length in bytes of the map that shoalswift_format wants for such a disc. 2 where that would refuse it with 2. */
+uint32_t shoalswift_format_length(uint32_t log2secsize, uint64_t capacity, uint32_t idlen, uint64_t *length, uint32_t *zone);
 
 #ifdef __cplusplus
 }

@@ -24,8 +24,8 @@ fn answered<T: Default>(call: impl FnOnce(&mut T, &mut u32) -> u32) -> Result<T,
     Err(Refusal { reason, zone })
 }
 
-/// The same of a call that writes pairs of entries, or positions, and answers how
-/// many.
+/// The same of a call that answers how many: pairs of entries or positions that it
+/// wrote, or bytes.
 fn count(call: impl FnOnce(&mut u64, &mut u32) -> u32) -> Result<usize, Refusal> {
     answered(call).map(|count| count as usize)
 }
@@ -209,5 +209,33 @@ pub fn mend_positions(map: &[u8], list: &mut [u32]) -> Result<usize, Refusal> {
     // SAFETY: the map is only read; the list is borrowed by this call alone.
     count(|n, zone| unsafe {
         shoalswift_mend_positions(bytes, length, room, entries, n, zone)
+    })
+}
+
+/// Draws the map of a blank disc, whatever the buffer holds. `log2secsize` is 8 to
+/// 10, `idlen` `log2secsize` + 3 to 15; `capacity` is the disc's bytes, a multiple
+/// of the sector, up to 999 Mbytes (of 1,048,576 bytes). Object 2 has room for two
+/// copies of the map, and for no root directory. The map is then accepted, and all
+/// of the disc but object 2 is free. Refused: 2 where there is no such disc, or
+/// none whose map can be drawn; then 1 where the buffer is not as long as
+/// `format_length` tells.
+pub fn format(
+    log2secsize: u32,
+    capacity: u64,
+    idlen: u32,
+    map: &mut [u8],
+) -> Result<(), Refusal> {
+    let (bytes, length) = (map.as_mut_ptr(), map.len());
+    // SAFETY: the map is borrowed by this call alone.
+    answered(|(), zone| unsafe {
+        shoalswift_format(log2secsize, capacity, idlen, bytes, length, zone)
+    })
+}
+
+/// The length of the map that `format` wants for such a disc. Refused: 2.
+pub fn format_length(log2secsize: u32, capacity: u64, idlen: u32) -> Result<usize, Refusal> {
+    // SAFETY: only the two numbers to be answered are written.
+    count(|n, zone| unsafe {
+        shoalswift_format_length(log2secsize, capacity, idlen, n, zone)
     })
 }

@@ -120,4 +120,19 @@ extern "C" {
         count: *mut u64,
         zone: *mut u32,
     ) -> u32;
+    pub fn shoalswift_format(
+        log2secsize: u32,
+        capacity: u64,
+        idlen: u32,
+        map: *mut u8,
+        map_len: usize,
+        zone: *mut u32,
+    ) -> u32;
+    pub fn shoalswift_format_length(
+        log2secsize: u32,
+        capacity: u64,
+        idlen: u32,
+        length: *mut u64,
+        zone: *mut u32,
+    ) -> u32;
 }

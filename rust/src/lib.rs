@@ -28,8 +28,8 @@ mod declared;
 mod refusal;
 
 pub use calls::{
-    address, check, choose_copy, claim, copy_addresses, copy_over, free, geometry, list, mend,
-    mend_positions, place, release, sweep_free, sweep_object,
+    address, check, choose_copy, claim, copy_addresses, copy_over, format, format_length, free,
+    geometry, list, mend, mend_positions, place, release, sweep_free, sweep_object,
 };
 pub use refusal::{Reason, Refusal};
 

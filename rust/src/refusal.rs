@@ -10,10 +10,10 @@ use std::fmt;
 #[repr(u32)]
 pub enum Reason {
     /// The map has the wrong number of bytes, or is not as long as the copy that
-    /// it was to be written over.
+    /// it was to be written over or the map that was to be drawn in it.
     MapLength = 1,
     /// The disc record has a value that is not allowed, or a byte that has to be
-    /// 0 is not.
+    /// 0 is not; or no map can be drawn for the disc that was to be formatted.
     DiscRecord = 2,
     /// A zone's check byte is wrong.
     ZoneCheck = 3,
@@ -86,8 +86,8 @@ impl Reason {
 
     fn words(self) -> &'static str {
         match self {
-            Reason::MapLength => "the map's size does not fit its record or the other copy",
-            Reason::DiscRecord => "the disc record has a wrong value or is followed by rubbish",
+            Reason::MapLength => "the map's size does not fit its record, the other copy or the disc",
+            Reason::DiscRecord => "the disc record has a wrong value or is followed by rubbish, or no map fits the disc",
             Reason::ZoneCheck => "the zone's check byte does not match its contents",
             Reason::CrossCheck => "the cross check bytes of all zones do not combine to 255",
             Reason::FreeChain => "the zone's chain of free fragments is broken",

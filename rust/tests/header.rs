@@ -50,7 +50,7 @@ fn the_declarations_are_the_header_s() {
     for parameters in header.values_mut() {
         *parameters = parameters.iter().map(|one| in_rust(one)).collect();
     }
-    assert_eq!(header.len(), 15);
+    assert_eq!(header.len(), 17);
     assert_eq!(header, functions(DECLARED, "pub fn "));
     // Each answers the refusal's number.
     assert_eq!(DECLARED.matches(") -> u32;").count(), header.len());

@@ -35,6 +35,11 @@ use Rattle.mend.specs.declared.Mended.{Mended}
 use Rattle.mend.specs.declared.Mended.the-variants as mended
 use Rattle.mend.specs.declared.Changes.{Changes}
 use Rattle.mend.specs.declared.Changes.the-variants as changes
+use Rattle.format.specs.Formats.{Formatting, TellsLength}
+use Rattle.format.specs.declared.Formatted.{Formatted}
+use Rattle.format.specs.declared.Formatted.the-variants as formatted
+use Rattle.format.specs.declared.MapLength.{MapLength}
+use Rattle.format.specs.declared.MapLength.the-variants as long
 
 -- a contract: of a map and what else a call is handed (H), what it answers (A) and what it leaves of what it is lent (L)
 abbrev pub Contract : Type 0 → Type 0 → Type 0 → Type 1
@@ -120,6 +125,13 @@ mends m h r after = Mending m r after
 abbrev pub listsChanges : Contract (List ℕ) Changes (List ℕ)
 listsChanges m old r new = ListsChanges m old r new
 
+-- log2secsize, capacity, idlen; the map is a buffer, whose bytes are of no account
+abbrev pub formats : Contract (ℕ × ℕ × ℕ) Formatted (List ℕ)
+formats old h r after = Formatting (h .0) (h .1) (h .2) old r after
+
+abbrev pub tellsLength : ℕ × ℕ × ℕ → MapLength → Type 0
+tellsLength h r = TellsLength (h .0) (h .1) (h .2) r
+
 pub record EmptyPrograms : Type 0 where
   pub check : NoEmptyAnswer check.Refused checks
   pub list : NoEmptyAnswer listed.Refused lists
@@ -164,3 +176,10 @@ pub record EmptyPrograms : Type 0 where
   pub positions : NoEmptyAnswer changes.Refused listsChanges
   pub positions-written-never : Leaves (λ m old. old) listsChanges → ⊥
   pub positions-of-all : ((m old : List ℕ) → (a : Changes) × (new : List ℕ) × listsChanges m old a new × (a ≡ changes.Positions (length m))) → ⊥
+  -- formatting: nothing written, only zeros, or the same whatever the disc is; a length that is never told, or always the same
+  pub format : NoEmptyAnswer formatted.Refused formats
+  pub format-writes-nothing : Leaves (λ old h. old) formats → ⊥
+  pub format-only-clears : Leaves (λ old h. replicate (length old) 0) formats → ⊥
+  pub format-one-map : ((old : List ℕ) → (a : Formatted) × (after : List ℕ) × ((h : ℕ × ℕ × ℕ) → formats old h a after)) → ⊥
+  pub length-never : ((h : ℕ × ℕ × ℕ) → (r : Refusal) × tellsLength h (long.Refused r)) → ⊥
+  pub length-same : ((a : MapLength) × ((h : ℕ × ℕ × ℕ) → tellsLength h a)) → ⊥

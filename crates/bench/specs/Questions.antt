@@ -26,6 +26,8 @@ use Rattle.copies.specs.Copies.{copyFound, handedBack, sameBytes, choiceTold, c
 use Rattle.copies.specs.Copies.{addressesFound, addressesAnswer, addressesNumbers}
 use Rattle.mended.specs.Mended.{mended, positionsFound}
 use Rattle.mend.specs.Mends.{mendAnswer, mendNumbers, positionsAnswer, positionsNumbers, positionsAfter}
+use Rattle.formatted.specs.Drawn.{formatFound, bufferAfter, lengthFound}
+use Rattle.format.specs.Formats.{formatAnswer, formatNumbers, lengthAnswer, lengthNumbers}
 
 -- the calls with what they are handed: lists and images as they are lent; `counted` and `countedFree` are sweeps of so many bytes
 pub data Question : Type 0 where
@@ -46,6 +48,8 @@ pub data Question : Type 0 where
   copyAddresses : List ℕ → Question
   mend : List ℕ → Question
   mendPositions : List ℕ → List ℕ → Question
+  format : ℕ → ℕ → ℕ → List ℕ → Question
+  formatLength : ℕ → ℕ → ℕ → Question
   -- the map after an edit
   after : List ℕ → Call → Question
   -- start zone, sizes and need of a geometry; what an edit of these zones does to their cross checks
@@ -97,6 +101,10 @@ answer (copyOver s t) = two (copyNumbers (copyAnswer (copyJudged s t))) ++ targe
 answer (copyAddresses m) = four (addressesNumbers (addressesAnswer (addressesFound m)))
 answer (mend m) = two (mendNumbers (mendAnswer (mendRead m))) ++ mended m
 answer (mendPositions m old) = three (positionsNumbers (positionsAnswer (positionsFound m (length old)))) ++ positionsAfter old (positionsFound m (length old))
+answer (format logsector capacity idlen old) =
+    let found = formatFound logsector capacity idlen (length old) in
+    two (formatNumbers (formatAnswer found)) ++ bufferAfter old found
+answer (formatLength logsector capacity idlen) = three (lengthNumbers (lengthAnswer (lengthFound logsector capacity idlen)))
 answer (after m c) = step m c
 answer (start g id) = three (startNumbers (startOf g 1 id))
 answer (sizes g) = g .bits ∷ g .shortest ∷ g .ids ∷ g .size ∷ []

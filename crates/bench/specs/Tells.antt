@@ -36,6 +36,11 @@ use Rattle.mended.specs.Mended.{positionsFound}
 use Rattle.mend.specs.Mends.{mendNumbers, Mending, positionsNumbers, ListsChanges}
 use Rattle.mend.specs.declared.Mended.{Mended}
 use Rattle.mend.specs.declared.Changes.{Changes}
+use Rattle.formatted.specs.Drawn.{formatFound, lengthFound}
+use Rattle.format.specs.Formats.{formatNumbers, Formatting, lengthNumbers, TellsLength}
+use Rattle.format.specs.declared.Formatted.{Formatted}
+use Rattle.format.specs.declared.MapLength.{MapLength}
+use Rattle.format.specs.declared.MapLength.the-variants as long
 
 -- check
 pub record CheckTells (m : List ℕ) (r : Checked) : Type 0 where
@@ -98,6 +103,15 @@ pub record PositionsTells (found : Answer (List ℕ)) (old : List ℕ) (r : Chan
   pub refused-told : (n z : ℕ) → found ≡ refused n z → (positionsNumbers r ≡ (n, z, 0)) × (new ≡ old)
   pub accepted-told : (ps : List ℕ) → found ≡ answered ps → (positionsNumbers r ≡ (0, 0, length ps)) × (new ≡ ps ++ drop (length ps) old)
 
+-- formatting
+pub record FormatTells (found : Answer (List ℕ)) (old : List ℕ) (r : Formatted) (after : List ℕ) : Type 0 where
+  pub refused-told : (n z : ℕ) → found ≡ refused n z → (formatNumbers r ≡ (n, z)) × (after ≡ old)
+  pub accepted-told : (m : List ℕ) → found ≡ answered m → (formatNumbers r ≡ (0, 0)) × (after ≡ m)
+
+pub record LengthTells (found : Answer ℕ) (r : MapLength) : Type 0 where
+  pub refused-told : (n z : ℕ) → found ≡ refused n z → lengthNumbers r ≡ (n, z, 0)
+  pub accepted-told : (n : ℕ) → found ≡ answered n → lengthNumbers r ≡ (0, 0, n)
+
 pub record AnswersTold : Type 0 where
   pub checks : (m : List ℕ) (r : Checked) → Checks m r → CheckTells m r
   pub lists : (found : Answer (List Pair)) (old : List ℕ) (r : Listed) (new : List ℕ) → Lists found old r new → ListTells found old r new
@@ -117,6 +131,14 @@ pub record AnswersTold : Type 0 where
   pub listed-changed : (m old : List ℕ) (r : Changes) (new : List ℕ) → ListsChanges m old r new → (ps : List ℕ) → positionsFound m (length old) ≡ answered ps
       → (s : Mended) (after : List ℕ) → Mending m s after → Bytes m
       → (i : ℕ) → In i (take (length ps) new) ↔ ((i < length m) × (getD m i 0 ≡ getD after i 0 → ⊥))
+  pub formats : (logsector capacity idlen : ℕ) (old : List ℕ) (r : Formatted) (after : List ℕ) → Formatting logsector capacity idlen old r after
+      → FormatTells (formatFound logsector capacity idlen (length old)) old r after
+  pub lengths : (logsector capacity idlen : ℕ) (r : MapLength) → TellsLength logsector capacity idlen r → LengthTells (lengthFound logsector capacity idlen) r
+  -- "The drawn map must be accepted": of the promises of both calls and of the check, a buffer of the length that the one tells is drawn by the
+  -- other, and the check accepts it
+  pub length-drawn : (logsector capacity idlen n : ℕ) → TellsLength logsector capacity idlen (long.Bytes n)
+      → (old : List ℕ) → length old ≡ n → (s : Formatted) (after : List ℕ) → Formatting logsector capacity idlen old s after
+      → (q : Checked) → Checks after q → (formatNumbers s ≡ (0, 0)) × (checkNumbers q ≡ (0, 0))
   -- demand 3: "Release an ordinary object, with room for its list, and at once place the returned list under its number: both are accepted
   -- and every byte is as before, check bytes too." Of the promises: the list that the release left, cut to its pairs, is placed.
   pub returned-placed : (m : List ℕ) → Editable m → (id : ℕ) (old : List ℕ) (r : Listed) (after new : List ℕ) → Releases m id old r after new

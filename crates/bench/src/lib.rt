@@ -5,6 +5,7 @@ ghost use mathlib.Core.Path.{_≡_};
 ghost use mathlib.Core.List.{map};
 ghost use Rattle.bench.specs.Table.{table, answered, expected};
 ghost use Rattle.bench.specs.MendTable.{mendTable};
+ghost use Rattle.bench.specs.FormatTable.{formatTable};
 ghost use Rattle.bench.specs.Empty.{EmptyPrograms};
 ghost use Rattle.bench.specs.Tells.{AnswersTold};
 
@@ -16,6 +17,11 @@ pub fn bench_examples()
 // Maps that are mended, and those that are not, in rows of our own (specs/MendTable): as a contract, the function does nothing.
 pub fn mend_examples()
     ensures { λ _. ⌜ map answered mendTable ≡ map expected mendTable ⌝ }
+{}
+
+// Discs that are formatted, and those that are not (specs/FormatTable): as a contract, the function does nothing.
+pub fn format_examples()
+    ensures { λ _. ⌜ map answered formatTable ≡ map expected formatTable ⌝ }
 {}
 
 // No empty program meets the contracts, as a contract: the function does nothing.

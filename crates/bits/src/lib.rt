@@ -8,7 +8,7 @@
 // at the end.
 ghost use mathlib.Core.Path.{_≡_};
 ghost use mathlib.Core.Bool.{true, false, cond, _&&_};
-ghost use Prim.Native.Nat.{_+_, _-_, _*_, _/_, _%_, _^_, _<_, _≤_, max};
+ghost use Prim.Native.Nat.{_+_, _-_, _*_, _/_, _%_, _^_, _<_, _≤_, min, max};
 ghost use lib.ListN.{length, set};
 ghost use lib.Seq.{slice, sets};
 ghost use Rattle.bits.specs.Bits.{byteBits, numberBits, value, zeros};
@@ -238,6 +238,12 @@ pub fn minus(a: usize, b: usize) -> usize
         return 0;
     }
     a - b
+}
+
+pub fn smaller(a: usize, b: usize) -> usize
+    ensures { λ r. ⌜ r ≡ min a b ⌝ }
+{
+    if a < b { a } else { b }
 }
 
 pub fn larger(a: usize, b: usize) -> usize

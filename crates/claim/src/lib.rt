@@ -5,6 +5,7 @@
 use bits::both;
 use bits::larger;
 use bits::minus;
+use bits::smaller;
 use geometry::DiscBit;
 use geometry::Geometry;
 use geometry::Refusal;
@@ -15,7 +16,7 @@ use walk::Touching;
 ghost use mathlib.Core.Path.{_≡_};
 ghost use mathlib.Core.Bool.{true};
 ghost use mathlib.Core.List.{[], _∷_};
-ghost use Prim.Native.Nat.{_+_, _*_, _<_, _≤_, min};
+ghost use Prim.Native.Nat.{_+_, _*_, _<_, _≤_};
 ghost use lib.ListN.{length};
 ghost use Rattle.bits.specs.Bits.{byteBits};
 ghost use Rattle.geometry.specs.Accepted.{AcceptedGeometry};
@@ -180,7 +181,7 @@ fn list_several(
 }
 
 // Need: the larger of m and the size rounded up to clusters, in map bits. It divides first, so that no size wraps.
-fn need_of(g: Geometry, size: u64) -> usize
+pub fn need_of(g: Geometry, size: u64) -> usize
     requires { ⌜ AcceptedGeometry g ⌝ }
     ensures { λ r. ⌜ r ≡ need g size ⌝ }
 {
@@ -191,12 +192,6 @@ fn need_of(g: Geometry, size: u64) -> usize
         g.shortest_fragment(),
         (bytes / cluster + started) * g.cluster,
     )
-}
-
-fn smaller(a: usize, b: usize) -> usize
-    ensures { λ r. ⌜ r ≡ min a b ⌝ }
-{
-    if a < b { a } else { b }
 }
 
 // A hole by its first bit and its length, or none.

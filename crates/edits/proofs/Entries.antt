@@ -1,14 +1,16 @@
 -- The entries of a list, and which they are when some are left out, put in, joined or mapped, by induction on the list.
-use mathlib.Core.Path.{_≡_, refl, sym, ap, _∙_}
-use mathlib.Core.Bool.{Bool, true}
+use mathlib.Core.Path.{_≡_, refl, sym, ap, _∙_, subst}
+use mathlib.Core.Bool.{Bool, true, not}
 use mathlib.Core.List.{List, [], _∷_, _++_, map}
 use mathlib.Core.Logic.{_⊎_, inl, inr}
-use Prim.Native.Nat.{_+_, _≤_}
+use Prim.Native.Nat.{ℕ, _+_, _≤_}
 use native.Mathlib.Omega.{arith}
 use lib.Dec.{ltb}
+use borrow.Author.Tests.{eqb-true}
 use Rattle.bits.proofs.Tests.{by-test}
+use Rattle.geometry.specs.declared.Geometry.{Geometry}
 use Rattle.model.specs.Chain.{Pair}
-use Rattle.model.specs.Pieces.{Piece, keep}
+use Rattle.model.specs.Pieces.{Piece, keep, isOf, piecesOf, late, rotate, objectPairs}
 use Rattle.split.specs.Taken.{total, putBy, sortBy}
 use Rattle.edits.specs.Edits.{insert, put}
 use Rattle.edits.specs.Room.{In, Earlier}
@@ -163,3 +165,17 @@ pub total-in : (h : Pair) (l : List Pair) → In h l → h .len ≤ total l
 total-in h [] i = absurd i
 total-in h (x ∷ xs) (inl e) = let n : h .len ≡ x .len = ap (λ (q : Pair). q .len) e in omega arith
 total-in h (x ∷ xs) (inr i) = omega (arith, total-in h xs i)
+
+-- an object's pair is a piece of its
+rotate-in : (t : Piece → Bool) (p : Piece) (l : List Piece) → In p (rotate t l) → In p l
+rotate-in t p l i = go (in-append p (keep t l) (keep (λ x. not (t x)) l) i)
+  where
+    go : In p (keep t l) ⊎ In p (keep (λ x. not (t x)) l) → In p l
+    go (inl j) = (in-kept t p l j) .0
+    go (inr j) = (in-kept (λ x. not (t x)) p l j) .0
+
+pub listed-back : (g : Geometry) (id : ℕ) (q : Pair) (l : List Piece) → In q (objectPairs g id l) → In (record { at = q; owner = id }) l
+listed-back g id q l i =
+    let a = in-map (λ (x : Piece). x .at) q (rotate (late g id) (piecesOf id l)) i in
+    let b = in-kept (isOf id) (a .0) l (rotate-in (late g id) (a .0) (piecesOf id l) (a .1)) in
+    subst (λ (p : Piece). In p l) (λ j. record { at = sym (a .2) j; owner = eqb-true (a .0 .owner) id (b .1) j }) (b .0)

@@ -14,6 +14,7 @@ pub mod HolesAscend
 pub mod ClaimFits
 pub mod ListInOrder
 pub mod Chosen
+pub mod NeedRules
 pub mod RunsKept
 pub mod ReadsAfter
 pub mod Fourteen
@@ -41,6 +42,7 @@ pub mod ZoneFound
 pub mod MapFound
 pub mod MapAccepted
 pub mod HolesSpans
+pub mod FreeBits
 pub mod RunsOnBytes
 pub mod ZonesTouched
 pub mod ZonesAfter

@@ -44,7 +44,7 @@ module _ (r : DiscRecord) where
         spare-low = leb-true 32 (r .spare) (p4 .1);
       }
 
-  fields-give-test : FieldRules r → fieldsFit r ≡ true
+  pub fields-give-test : FieldRules r → fieldsFit r ≡ true
   fields-give-test f =
       rw (
         le-leb _ _ (f .version-high),

@@ -186,7 +186,7 @@ impl Geometry {
 }
 
 // 2 to the n.
-fn power(n: usize) -> usize
+pub fn power(n: usize) -> usize
     requires { ⌜ n ≤ 19 ⌝ }
     ensures { λ r. ⌜ (r ≡ 2 ^ n) × (1 ≤ r) × (r ≤ 524288) ⌝ }
 {
@@ -252,7 +252,7 @@ fn within(a: usize, x: usize, b: usize) -> bool
 }
 
 // The ranges of the fields one by one.
-fn fields_fit(r: DiscRecord) -> bool
+pub fn fields_fit(r: DiscRecord) -> bool
     requires { ⌜ r .logsector < 256 ⌝ }
     ensures { λ b. ⌜ b ≡ fieldsFit r ⌝ }
 {
@@ -267,7 +267,7 @@ fn fields_fit(r: DiscRecord) -> bool
 }
 
 // The numbers that the fields fix. A zone_spare above 8S leaves no bits.
-fn geometry_from(r: DiscRecord) -> Geometry
+pub fn geometry_from(r: DiscRecord) -> Geometry
     requires { ⌜ FieldRules r × (r .idlen ≤ 19) × (r .size < 4294967296) ⌝ }
     ensures { λ g. ⌜ g ≡ geometryFrom r ⌝ }
 {
@@ -291,7 +291,7 @@ fn geometry_from(r: DiscRecord) -> Geometry
 }
 
 // What the fields give together.
-fn geometry_fits(g: Geometry) -> bool
+pub fn geometry_fits(g: Geometry) -> bool
     requires { ⌜ SmallNumbers g ⌝ }
     ensures { λ r. ⌜ r ≡ geometryFits g ⌝ }
 {

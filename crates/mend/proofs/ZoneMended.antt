@@ -1,20 +1,18 @@
 -- One zone mended: the pieces that it has are listed, and its block is drawn from the list, in the map or in a copy of the block.
-use mathlib.Core.Path.{_≡_, ap, ap₂, _∙_, subst⁻¹}
-use mathlib.Core.List.{List, _++_, map, append-nil}
+use mathlib.Core.Path.{_≡_, ap, ap₂, _∙_}
+use mathlib.Core.List.{List, _++_, append-nil}
 use Prim.Native.Nat.{ℕ, _+_, _*_, _<_, _≤_}
 use native.Mathlib.Omega.{arith}
 use lib.ListN.{length, take, drop, drop-of-length-le}
 use lib.Seq.{take-length}
 use Rattle.geometry.specs.declared.Geometry.{Geometry}
-use Rattle.geometry.specs.Places.{firstBit, endBit}
-use Rattle.model.specs.Drawing.{Drawable}
 use Rattle.model.specs.Pieces.{Piece}
 use Rattle.model.specs.Rules.{zoneBlock}
 use Rattle.model.proofs.ByPlace.{zone-end}
 use Rattle.map.specs.Accepted.{ReadableFrom}
 use Rattle.walk.proofs.ZonesRead.{zone-sound}
-use Rattle.edits.specs.Written.{toBlock}
 use Rattle.writer.specs.Listed.{piecesFrom, ZoneDrawing, zoneDrawn}
+use Rattle.writer.proofs.WholeZone.{drawing-listed}
 use Rattle.mend.specs.Zones.{ownPieces, ZoneMend, blockMended}
 
 -- a zone's block ends within the map
@@ -34,13 +32,7 @@ module _ {m : List ℕ} {g : Geometry} {z room : ℕ} (q : ZoneMend m g z room) 
 
   module _ (pieces : List ℕ) (n : ℕ) (e : piecesFrom pieces 0 n ≡ ownPieces g m z) {b : List ℕ} (eb : b ≡ zoneBlock g m z) where
     pub zone-drawing : 3 * n ≤ length pieces → ZoneDrawing g z b pieces n
-    zone-drawing h = record {
-      numbers = q .reads .numbers;
-      zone = q .zone;
-      sized = ap length eb ∙ block-sized;
-      listed = h;
-      drawable = subst⁻¹ (λ (ps : List Piece). Drawable (g .idlen) (firstBit z) (endBit g) (map (toBlock g z) ps)) e (q .drawable);
-    }
+    zone-drawing h = drawing-listed pieces n (q .reads .numbers) (q .zone) (ap length eb ∙ block-sized) h e (q .drawable)
 
     pub zone-drawn : (change : ℕ) {new : List ℕ} → new ≡ zoneDrawn g z (piecesFrom pieces 0 n) change b → new ≡ blockMended g m z change
     zone-drawn change en = en ∙ ap₂ (λ (ps : List Piece) (x : List ℕ). zoneDrawn g z ps change x) e eb

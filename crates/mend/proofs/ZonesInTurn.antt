@@ -10,12 +10,10 @@ use Rattle.geometry.specs.declared.Geometry.{Geometry}
 use Rattle.geometry.specs.Places.{firstBit, endBit}
 use Rattle.model.specs.Drawing.{Drawable}
 use Rattle.model.specs.Rules.{zoneBlock}
-use Rattle.model.proofs.ByPlace.{block-length}
 use Rattle.zone.specs.Lines.{IsRead}
 use Rattle.map.specs.Accepted.{ReadableFrom, MendableMap}
 use Rattle.edits.specs.Edits.{without}
 use Rattle.edits.specs.Written.{toBlock}
-use Rattle.edits.proofs.Slices.{same-blocks}
 use Rattle.edits.proofs.WrittenBelow.{WrittenBelow, next-block, written-ends, written-turn}
 use Rattle.writer.specs.Listed.{zoneDrawn}
 use Rattle.writer.specs.Edited.{ownedInZone, zonePut}
@@ -45,15 +43,13 @@ module _ {m : List ℕ} {g : Geometry} (a : MendableMap m g) (bytes : Bytes m) w
         ap₂ (λ (b : List ℕ) (x : ℕ). zoneDrawn g z (without 0 (ownedInZone g z b)) x b) same (ec ∙ ap (changeOf z) el)
         ∙ sym (zones .block z h)
 
-  module _ {now : List ℕ} {z : ℕ} (w : WrittenBelow (g .sector) (g .zones) (zoneBlock g (mended m)) m now z) where
+  module _ {now : List ℕ} {z : ℕ} (w : WrittenBelow (g .sector) (g .zones) (mended m) m now z) where
     pub mending-ends : g .zones ≤ z → now ≡ mended m
-    mending-ends l =
-        same-blocks (g .sector) (g .zones) now (mended m) (w .kept ∙ whole) (zones .long)
-        (written-ends (g .sector) (g .zones) (zoneBlock g (mended m)) m now z w l)
+    mending-ends l = written-ends w whole (zones .long) l
 
     module _ (h : z < g .zones) where
       old-block : zoneBlock g now z ≡ zoneBlock g m z
-      old-block = next-block (g .sector) (g .zones) (zoneBlock g (mended m)) m now z w h
+      old-block = next-block w h
 
       pub next-mend : {room : ℕ} → 2048 ≤ room → ZoneMend now g z room
       next-mend r = zone-mend now z old-block h (record {
@@ -63,10 +59,5 @@ module _ {m : List ℕ} {g : Geometry} (a : MendableMap m g) (bytes : Bytes m) w
       }) r
 
       pub mending-turn : {change lack : ℕ} {next : List ℕ} → lack ≡ lackOf g m → change ≡ changeOf z lack → next ≡ zonePut g z now (blockMended g now z change)
-          → WrittenBelow (g .sector) (g .zones) (zoneBlock g (mended m)) m next (z + 1)
-      mending-turn {change} el ec en =
-          let e = zone-mended now z old-block h el ec in
-          let lb : length (blockMended g now z change) ≡ length (zoneBlock g now z) =
-          ap length e ∙ block-length (mended m) (g .zones) (g .sector) (zones .long) z h ∙ sym (block-length now (g .zones) (g .sector) (w .kept ∙ whole) z h) in
-          subst⁻¹ (λ (x : List ℕ). WrittenBelow (g .sector) (g .zones) (zoneBlock g (mended m)) m x (z + 1)) en
-          (written-turn (g .sector) (g .zones) (zoneBlock g (mended m)) m now z w whole h (blockMended g now z change) lb e)
+          → WrittenBelow (g .sector) (g .zones) (mended m) m next (z + 1)
+      mending-turn el ec en = written-turn w whole (zones .long) h (zone-mended now z old-block h el ec) en

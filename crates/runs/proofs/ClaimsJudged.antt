@@ -41,7 +41,7 @@ use Rattle.edits.proofs.ListInOrder.{in-order-in, in-in-order}
 use Rattle.edits.proofs.Chosen.{empty, IdFor, there, elsewhere, id-found, id-ordinary, first-taken, need-long}
 use Rattle.edits.proofs.RunsKept.{place-tests}
 use Rattle.edits.proofs.MapAccepted.{map-geometry, map-disc}
-use Rattle.edits.proofs.HolesSpans.{holes-are-spans}
+use Rattle.edits.proofs.FreeBits.{spans-holes}
 use Rattle.edits.proofs.Returned.{pairs-numbers}
 use Rattle.edits.proofs.PairsGiven.{none-listed, given-placed}
 use Rattle.edits.proofs.ReadsAfter.{same-pieces}
@@ -111,10 +111,6 @@ module _ (g : Geometry) (l : List Piece) (n p : ℕ) where
 
   none-found : (zs : List ℕ) → firstHole n (holesOf g l zs) ≡ none → (z : ℕ) → In z zs → (h : Pair) → In h (holesIn g l z) → h .len < n
   none-found zs e z i h j = none-long n (holesOf g l zs) e h (holes-of-in g l zs z i h j)
-
--- a map's free spans are its holes
-pub spans-holes : (m : List ℕ) → Editable m → spansOn m ≡ holesFrom (geometryOf m) 0 ((geometryOf m) .zones) (piecesOn (geometryOf m) m)
-spans-holes m ed = sym (holes-are-spans m (zonesOf m) (ed .accepted) (ed .apart))
 
 -- the id that is found for a zone, in terms of what the map lists
 module _ (m : List ℕ) (z id : ℕ) where

@@ -14,7 +14,6 @@ pub mod ClaimsJudged
 pub mod MapRefused
 pub mod MapsEdited
 pub mod NeverFourteen
-pub mod NeedRules
 pub mod ClaimedBits
 pub mod Touches
 pub mod RoomForList

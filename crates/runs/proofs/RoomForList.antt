@@ -28,9 +28,10 @@ use Rattle.edits.proofs.Entries.{in-keep, in-kept, in-map, map-in, in-put, put-
 use Rattle.edits.proofs.HolesLeft.{lies-apart}
 use Rattle.edits.proofs.Invariant.{FitPieces, some-zone, on-disc, zoned-on-disc, in-zone}
 use Rattle.edits.proofs.MapAccepted.{map-geometry, map-disc}
+use Rattle.edits.proofs.FreeBits.{bit-zone, NoneHas, in-hole, hole-bits, free-holes, piece-bit, map-free}
 use Rattle.runs.specs.ListRoom.{StaysFree, Leftover, NoRoom, not-free, leftover}
-use Rattle.runs.proofs.Thirteen.{ListedFree, bit-zone, pairs-in, apart-if-free, pairs-thirteen}
-use Rattle.runs.proofs.FreeBits.{NoneHas, in-hole, holes-free, free-holes, has-or-none, piece-bit, put-own, map-free}
+use Rattle.runs.proofs.Thirteen.{ListedFree, pairs-in, apart-if-free, pairs-thirteen}
+use Rattle.runs.proofs.FreeBits.{has-or-none, put-own}
 
 -- a hole: between the ends, and with no free bit beside it
 pub record HoleAlone (at end : ℕ) (ps : List Piece) (h : Pair) : Type 0 where
@@ -62,8 +63,8 @@ hole-alone at end [] y h i = go (gap-or-rest at end [] h i)
       from = omega arith;
       some = omega arith;
       to = omega arith;
-      before = λ d e w. omega (arith, holes-free at end [] y d w .0);
-      after = λ w. omega (arith, holes-free at end [] y (h .start + h .len) w .1);
+      before = λ d e w. omega (arith, hole-bits at end [] y d w .0);
+      after = λ w. omega (arith, hole-bits at end [] y (h .start + h .len) w .1);
     }
 hole-alone at end (p ∷ ps) y h i = go (gap-or-rest at (p .at .start) (holes (p .at .start + p .at .len) end ps) h i) (hole-alone (p .at .start + p .at .len) end ps (y .2) h)
   where
@@ -73,8 +74,8 @@ hole-alone at end (p ∷ ps) y h i = go (gap-or-rest at (p .at .start) (holes (p
       from = omega arith;
       some = omega arith;
       to = omega (arith, lies-le (p .at .start + p .at .len) end ps (y .2));
-      before = λ d e w. omega (arith, holes-free at end (p ∷ ps) y d w .0);
-      after = λ w. holes-free at end (p ∷ ps) y (h .start + h .len) w .2 p (inl refl) (omega arith, omega arith);
+      before = λ d e w. omega (arith, hole-bits at end (p ∷ ps) y d w .0);
+      after = λ w. hole-bits at end (p ∷ ps) y (h .start + h .len) w .2 p (inl refl) (omega arith, omega arith);
     }
     go (inr j) ih =
         let r = ih j in
@@ -185,7 +186,7 @@ module _ (m : List ℕ) (ed : Editable m) (id : ℕ) (list : List ℕ) (k : pair
 
     hole-stays : (d : ℕ) → InSome (left z) d → (zoneOf (geometryOf m) d ≡ z) × StaysFree m list d
     hole-stays d w =
-        let f = holes-free (zoneFrom g z) (zoneEnd g z) (after z) y d w in
+        let f = hole-bits (zoneFrom g z) (zoneEnd g z) (after z) y d w in
         let e : zoneOf g d ≡ z = in-zone g z d (f .0) (f .1) in (
           e,
           (

@@ -6,14 +6,14 @@ use mathlib.Core.List.{List, [], _∷_, _++_}
 use mathlib.Core.Logic.{_⊎_, inl, inr}
 use Prim.Native.Nat.{ℕ, suc, _≤_}
 use native.Mathlib.Omega.{arith}
-use borrow.Author.Tests.{eqb-true, eq-eqb}
+use borrow.Author.Tests.{eq-eqb}
 use Rattle.bits.proofs.Tests.{by-test}
 use Rattle.geometry.specs.declared.Geometry.{Geometry}
 use Rattle.model.specs.Chain.{Pair}
 use Rattle.model.specs.Pieces.{Piece, keep, isOf, piecesOf, late, rotate, objectPairs}
 use Rattle.edits.specs.Order.{Ascending}
 use Rattle.edits.specs.Room.{In}
-use Rattle.edits.proofs.Entries.{in-append, in-keep, in-kept, in-map, map-in}
+use Rattle.edits.proofs.Entries.{in-keep, map-in, listed-back}
 
 append-in : {A : Type 0} (h : A) (xs ys : List A) → In h xs ⊎ In h ys → In h (xs ++ ys)
 append-in h [] ys (inl i) = absurd i
@@ -28,24 +28,11 @@ in-rotate t p l i =
     (λ k. append-in p (keep t l) (keep (λ x. not (t x)) l) (inl (in-keep t p l i k)))
     (λ k. append-in p (keep t l) (keep (λ x. not (t x)) l) (inr (in-keep (λ x. not (t x)) p l i (ap not k))))
 
-rotate-in : (t : Piece → Bool) (p : Piece) (l : List Piece) → In p (rotate t l) → In p l
-rotate-in t p l i = go (in-append p (keep t l) (keep (λ x. not (t x)) l) i)
-  where
-    go : In p (keep t l) ⊎ In p (keep (λ x. not (t x)) l) → In p l
-    go (inl j) = (in-kept t p l j) .0
-    go (inr j) = (in-kept (λ x. not (t x)) p l j) .0
-
 -- a piece is listed by its owner
 listed : (g : Geometry) (p : Piece) (l : List Piece) → In p l → In (p .at) (objectPairs g (p .owner) l)
 listed g p l i =
     map-in (λ (x : Piece). x .at) p (rotate (late g (p .owner)) (piecesOf (p .owner) l))
     (in-rotate (late g (p .owner)) p (piecesOf (p .owner) l) (in-keep (isOf (p .owner)) p l i (eq-eqb (p .owner) (p .owner) refl)))
-
-listed-back : (g : Geometry) (id : ℕ) (q : Pair) (l : List Piece) → In q (objectPairs g id l) → In (record { at = q; owner = id }) l
-listed-back g id q l i =
-    let a = in-map (λ (x : Piece). x .at) q (rotate (late g id) (piecesOf id l)) i in
-    let b = in-kept (isOf id) (a .0) l (rotate-in (late g id) (a .0) (piecesOf id l) (a .1)) in
-    subst (λ (p : Piece). In p l) (λ j. record { at = sym (a .2) j; owner = eqb-true (a .0 .owner) id (b .1) j }) (b .0)
 
 -- later pieces start later
 asc-later : (f : ℕ) (p : Piece) (l : List Piece) → Ascending f l → In p l → f ≤ p .at .start

@@ -14,14 +14,8 @@ use Rattle.model.proofs.ChainDrawn.{Lies}
 use Rattle.edits.specs.Edits.{insert, put}
 use Rattle.edits.specs.Room.{In, ShareNone}
 use Rattle.edits.proofs.Entries.{in-kept, insert-own, in-put, put-in}
+use Rattle.edits.proofs.FreeBits.{lies-from}
 use Rattle.model.specs.Chain.{Within}
-use Rattle.model.proofs.ZoneDrawn.{lies-le}
-
--- where pieces lie that come one after another
-pub lies-from : (at end : ℕ) (l : List Piece) (p : Piece) → Lies at end l → In p l → (at ≤ p .at .start) × (0 < p .at .len) × (p .at .start + p .at .len ≤ end)
-lies-from at end [] p w i = absurd i
-lies-from at end (x ∷ xs) p w (inl e) = subst (λ (y : Piece). (at ≤ y .at .start) × (0 < y .at .len) × (y .at .start + y .at .len ≤ end)) (sym e) (w .0, w .1, lies-le (x .at .start + x .at .len) end xs (w .2))
-lies-from at end (x ∷ xs) p w (inr i) = let r = lies-from (x .at .start + x .at .len) end xs p (w .2) i in (omega arith, r .1, r .2)
 
 -- a piece taken out
 pub lies-without : (at end : ℕ) (p : Piece) (l : List Piece) → Lies at end (insert p l) → Lies at end l

@@ -7,13 +7,13 @@ use mathlib.Core.Logic.{inl, inr}
 use Prim.Native.Nat.{ℕ, _+_, _<_, _≤_}
 use native.Mathlib.Nat.{div-mul-le-self}
 use native.Mathlib.Omega.{arith}
-use lib.Dec.{eqb, ltb, leb}
-use borrow.Author.Tests.{eqb-true, eq-eqb, ltb-true, leb-true}
+use lib.Dec.{eqb, leb}
+use borrow.Author.Tests.{eqb-true, eq-eqb, leb-true}
 use Rattle.bits.proofs.Tests.{by-test, both}
 use Rattle.geometry.specs.declared.Geometry.{Geometry}
 use Rattle.geometry.specs.Accepted.{AcceptedGeometry}
 use Rattle.geometry.specs.Places.{zoneOf, zoneFrom, zoneEnd, discBits, startZone}
-use Rattle.model.specs.Chain.{Pair, Within}
+use Rattle.model.specs.Chain.{Pair}
 use Rattle.model.specs.Pieces.{Piece, late}
 use Rattle.model.proofs.ChainDrawn.{Lies}
 use Rattle.edits.specs.Order.{rank}
@@ -22,12 +22,14 @@ use Rattle.edits.specs.Holes.{holes, allApart}
 use Rattle.edits.specs.Judge.{pairFits, pairsFit}
 use Rattle.edits.proofs.Kept.{All, all-keep, all-put}
 use Rattle.edits.specs.Room.{In, ShareNone}
-use Rattle.edits.proofs.Entries.{all-in, in-keep, in-kept, in-map, map-in}
+use Rattle.edits.proofs.Entries.{in-keep, in-kept, in-map, map-in}
 use Rattle.edits.proofs.ByPlace.{keep-put-by-place}
 use Rattle.edits.proofs.Gaps.{isLong, all-apart-at}
 use Rattle.edits.proofs.HolesLeft.{apart-lies, apart-holes, lies-apart, apart-all}
-use Rattle.edits.proofs.Invariant.{FitPieces, some-bits, on-disc, in-zone, PairTested, pair-tested, list-long}
-use Rattle.runs.proofs.Sharing.{lies-from, put-shares-none, Separate, separate-keep, lies-put}
+use Rattle.edits.proofs.Invariant.{FitPieces, some-bits, on-disc, PairTested, pair-tested, list-long}
+use Rattle.edits.proofs.HolesAscend.{zone-lies}
+use Rattle.edits.proofs.FreeBits.{bit-zone, piece-end}
+use Rattle.runs.proofs.Sharing.{put-shares-none, Separate, separate-keep, lies-put}
 
 -- every listed bit is free: no piece has it
 abbrev pub ListedFree : List Pair → List Piece → Type 0
@@ -36,10 +38,6 @@ ListedFree qs l = (q : Pair) → In q qs → (p : Piece) → In p l → ShareNon
 -- no leftover of 1 to m-1 free bits, where l are the pieces after the place
 abbrev pub NoLeftover : Geometry → List Piece → Type 0
 NoLeftover g l = (z : ℕ) → z < g .zones → (h : Pair) → In h (holes (zoneFrom g z) (zoneEnd g z) (inZone g z l)) → g .shortest ≤ h .len
-
--- a pair that ends in its zone has all its bits there
-pub bit-zone : (g : Geometry) (q : Pair) (d : ℕ) → q .start + q .len ≤ zoneEnd g (zoneOf g (q .start)) → Within q d → zoneOf g d ≡ zoneOf g (q .start)
-bit-zone g q d h w = in-zone g (zoneOf g (q .start)) d (omega (arith, div-mul-le-self (q .start + 480) (g .bits))) (omega arith)
 
 -- the listed pairs share no bit
 pub pairs-in : (g : Geometry) (id from : ℕ) (qs : List Pair) → pairsFit g id from qs ≡ true → (q : Pair) → In q qs → PairTested g q × (from ≤ rank (late g id) (discBits g) (own id q))
@@ -82,17 +80,6 @@ list-separate g id from (q ∷ qs) h =
     )
 
 -- the pieces before the place
-module _ (g : Geometry) (l : List Piece) (ok : AcceptedGeometry g) (fit : FitPieces g l) where
-  pub zone-lies : (z : ℕ) → z < g .zones → Lies (zoneFrom g z) (zoneEnd g z) (inZone g z l)
-  zone-lies z h = apart-lies (g .shortest) (zoneFrom g z) (zoneEnd g z) (inZone g z l) (some-bits g ok) (all-keep (isLong (g .shortest)) (λ p. eqb (zoneOf g (p .at .start)) z) l (fit .long)) (fit .parts z h)
-
-  -- a piece ends in its zone
-  pub piece-end : (p : Piece) → In p l → p .at .start + p .at .len ≤ zoneEnd g (zoneOf g (p .at .start))
-  piece-end p i =
-      let z = zoneOf g (p .at .start) in
-      let h : z < g .zones = ltb-true z (g .zones) (all-in (λ x. ltb (zoneOf g (x .at .start)) (g .zones)) l p (fit .zoned) i) in
-      (lies-from (zoneFrom g z) (zoneEnd g z) (inZone g z l) p (zone-lies z h) (in-keep (λ x. eqb (zoneOf g (x .at .start)) z) p l i (eq-eqb z z refl))) .2
-
 module _ (g : Geometry) (id : ℕ) (qs : List Pair) (l : List Piece) (ok : AcceptedGeometry g) (fit : FitPieces g l) (k : pairsFit g id 0 qs ≡ true) where
   pub after-long : All (isLong (g .shortest)) (give id qs l)
   after-long = all-put (isLong (g .shortest)) (map (own id) qs) l (list-long g id 0 qs k) (fit .long)

@@ -23,7 +23,8 @@ use Rattle.edits.specs.Judge.{pairsFrom, pairFits, pairsFit, listFits}
 use Rattle.edits.specs.Room.{In, Earlier}
 use Rattle.runs.specs.ListRules.{PairRules, ListRules}
 use Rattle.edits.proofs.Invariant.{some-bits, some-zone, PairTested, pair-tested}
-use Rattle.runs.proofs.Thirteen.{bit-zone, pairs-in, in-order-separate}
+use Rattle.edits.proofs.FreeBits.{bit-zone}
+use Rattle.runs.proofs.Thirteen.{pairs-in, in-order-separate}
 
 -- a pair that passes keeps the rules
 pair-rules : (g : Geometry) (q : Pair) → PairTested g q → PairRules g q

@@ -16,6 +16,8 @@ use Rattle.model.specs.Check.{mendRead}
 use Rattle.copies.specs.Copies.{copyJudged, copyTold, targetAfter}
 use Rattle.mended.specs.Mended.{mended, positionsFound}
 use Rattle.mend.specs.Mends.{mendTold, positionsTold, positionsAfter}
+use Rattle.formatted.specs.Drawn.{formatFound, bufferAfter}
+use Rattle.format.specs.Formats.{formatTold}
 
 -- a listing, by what it finds with so much room
 pub record ListTold (found : ℕ → Answer (List Pair)) (old : List ℕ) (told : ℕ × ℕ × ℕ) (new : List ℕ) : Type 0 where
@@ -51,3 +53,7 @@ pub record MendTold (m : List ℕ) (told : ℕ × ℕ) (after : List ℕ) : Type
 pub record PositionsTold (m old : List ℕ) (told : ℕ × ℕ × ℕ) (new : List ℕ) : Type 0 where
   pub numbers : told ≡ positionsTold (positionsFound m (length old))
   pub list : new ≡ positionsAfter old (positionsFound m (length old))
+
+pub record FormatTold (logsector capacity idlen : ℕ) (old : List ℕ) (told : ℕ × ℕ) (after : List ℕ) : Type 0 where
+  pub numbers : told ≡ formatTold (formatFound logsector capacity idlen (length old))
+  pub bytes : after ≡ bufferAfter old (formatFound logsector capacity idlen (length old))

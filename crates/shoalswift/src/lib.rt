@@ -6,6 +6,8 @@ use address::Reached;
 use claim::Claimed;
 use copies::Copied;
 use copies::Located;
+use format::Formatted;
+use format::MapLength;
 use listing::Listed;
 use map::Checked;
 use mend::Changes;
@@ -19,8 +21,10 @@ ghost use Rattle.listing.specs.Listed.{objectFound, freeFound, listNumbers};
 ghost use Rattle.address.specs.Address.{locationFound, addressTold};
 ghost use Rattle.sweep.specs.Sweep.{objectSweep, freeSweep, sweepNumbers};
 ghost use Rattle.copies.specs.Copies.{copyFound, sameBytes, choiceTold, addressesFound, addressesTold};
+ghost use Rattle.formatted.specs.Drawn.{lengthFound};
+ghost use Rattle.format.specs.Formats.{lengthTold};
 ghost use Rattle.shoalswift.specs.Geometry.{geometryNumbers};
-ghost use Rattle.shoalswift.specs.Told.{ListTold, SweepTold, ReleaseTold, PlaceTold, ClaimTold, CopyTold, MendTold, PositionsTold};
+ghost use Rattle.shoalswift.specs.Told.{ListTold, SweepTold, ReleaseTold, PlaceTold, ClaimTold, CopyTold, MendTold, PositionsTold, FormatTold};
 
 // Checks a map.
 #[no_mangle]
@@ -326,6 +330,54 @@ pub extern "C" fn shoalswift_mend_positions(
         }
         Changes::Refused(r) => {
             *positions = 0;
+            *zone = r.zone;
+            r.number
+        }
+    }
+}
+
+// Draws the map of a blank disc.
+#[no_mangle]
+pub extern "C" fn shoalswift_format(
+    log2secsize: u32,
+    capacity: u64,
+    idlen: u32,
+    map: &mut [u8],
+    zone: &mut u32,
+) -> u32
+    ensures { λ r. ⌜ FormatTold log2secsize capacity idlen (now (map .entry)) (r, now (zone .exit)) (now (map .exit)) ⌝ }
+{
+    match format::format(log2secsize, capacity, idlen, map) {
+        Formatted::Done => {
+            *zone = 0;
+            0
+        }
+        Formatted::Refused(r) => {
+            *zone = r.zone;
+            r.number
+        }
+    }
+}
+
+// The length of the map that formatting wants.
+#[no_mangle]
+pub extern "C" fn shoalswift_format_length(
+    log2secsize: u32,
+    capacity: u64,
+    idlen: u32,
+    length: &mut u64,
+    zone: &mut u32,
+) -> u32
+    ensures { λ r. ⌜ (r, now (zone .exit), now (length .exit)) ≡ lengthTold (lengthFound log2secsize capacity idlen) ⌝ }
+{
+    match format::format_length(log2secsize, capacity, idlen) {
+        MapLength::Bytes(n) => {
+            *length = n as u64;
+            *zone = 0;
+            0
+        }
+        MapLength::Refused(r) => {
+            *length = 0;
             *zone = r.zone;
             r.number
         }

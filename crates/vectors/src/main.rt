@@ -98,7 +98,7 @@ fn writes_list(call: u8) -> bool {
 
 fn writes_map(call: u8) -> bool {
     match call {
-        7 | 8 | 9 | 13 => true,
+        7 | 8 | 9 | 13 | 15 => true,
         _ => false,
     }
 }
@@ -128,6 +128,8 @@ fn run_call(head: &[u8; 32], map: &mut [u8], list: &mut [u32], image: &mut [u8])
         12 => run_copy_addresses(map),
         13 => run_mend(map),
         14 => run_mend_positions(map, list),
+        15 => run_format(head, map),
+        16 => run_format_length(head),
         _ => print_text(b"unknown"),
     }
 }
@@ -286,6 +288,34 @@ fn run_mend_positions(map: &[u8], list: &mut [u32]) {
     print_text(b"mend_positions");
     print_answer(r, zone);
     print_value(count);
+}
+
+fn run_format(head: &[u8; 32], map: &mut [u8]) {
+    let mut zone = 0;
+    let r = shoalswift::shoalswift_format(
+        word(head, 4),
+        long(head, 8),
+        word(head, 28),
+        map,
+        &mut zone,
+    );
+    print_text(b"format");
+    print_answer(r, zone);
+}
+
+fn run_format_length(head: &[u8; 32]) {
+    let mut zone = 0;
+    let mut length = 0;
+    let r = shoalswift::shoalswift_format_length(
+        word(head, 4),
+        long(head, 8),
+        word(head, 28),
+        &mut length,
+        &mut zone,
+    );
+    print_text(b"format_length");
+    print_answer(r, zone);
+    print_value(length);
 }
 
 fn print_answer(number: u32, zone: u32) {

@@ -1,7 +1,7 @@
--- A whole zone drawn and sealed is the block that `written` says.
-use mathlib.Core.Path.{_≡_}
+-- A whole zone: pieces that are listed can be drawn, and drawn and sealed it is the block that `written` says.
+use mathlib.Core.Path.{_≡_, subst⁻¹}
 use mathlib.Core.List.{List, map}
-use Prim.Native.Nat.{ℕ, _-_}
+use Prim.Native.Nat.{ℕ, _-_, _*_, _<_, _≤_}
 use native.Mathlib.Omega.{arith}
 use lib.Bits.{bitXor}
 use lib.ListN.{length, drop}
@@ -9,12 +9,20 @@ use Rattle.bits.specs.Bits.{byteBits, Bytes}
 use Rattle.checks.specs.Cross.{crossOf}
 use Rattle.geometry.specs.declared.Geometry.{Geometry}
 use Rattle.geometry.specs.declared.BlockBit.{BlockBit}
+use Rattle.geometry.specs.Accepted.{AcceptedGeometry}
 use Rattle.geometry.specs.Places.{firstBit, endBit}
 use Rattle.geometry.proofs.DiscBits.{first-low}
+use Rattle.model.specs.Drawing.{Drawable}
+use Rattle.model.specs.Pieces.{Piece}
 use Rattle.edits.specs.Written.{toBlock, sealed}
 use Rattle.zone.proofs.AllocBits.{first-high}
 use Rattle.writer.specs.Listed.{piecesFrom, ZoneDrawing, ZoneRedrawn, zoneDrawn}
 use Rattle.writer.proofs.Sealed.{sealed-written}
+
+pub drawing-listed : {g : Geometry} {z : ℕ} {block : List ℕ} {ps : List Piece} (pieces : List ℕ) (n : ℕ) → AcceptedGeometry g → z < g .zones → length block ≡ g .sector
+    → 3 * n ≤ length pieces → piecesFrom pieces 0 n ≡ ps → Drawable (g .idlen) (firstBit z) (endBit g) (map (toBlock g z) ps) → ZoneDrawing g z block pieces n
+drawing-listed {g} {z} pieces n ok h l r e d =
+    record { numbers = ok; zone = h; sized = l; listed = r; drawable = subst⁻¹ (λ (ps : List Piece). Drawable (g .idlen) (firstBit z) (endBit g) (map (toBlock g z) ps)) e d }
 
 module _ {g : Geometry} {z : ℕ} {block pieces : List ℕ} {n : ℕ} (q : ZoneDrawing g z block pieces n) where
   pub zone-written : (w : List ℕ) {first : BlockBit} (change : ℕ) → length w ≡ length block → Bytes block → Bytes w

@@ -1,7 +1,7 @@
 -- The zones of an edit one by one: each gets its part of the list, with the change of its cross check by its place among the touched
 -- zones. A zone to come is still the old one, so it can be read, and what there is after the edit can be drawn. Where all zones are
 -- done the map is the map after the edit.
-use mathlib.Core.Path.{_≡_, refl, sym, ap, ap₂, _∙_, subst, subst⁻¹}
+use mathlib.Core.Path.{_≡_, refl, sym, ap, ap₂, _∙_, subst⁻¹}
 use mathlib.Core.Bool.{cond}
 use mathlib.Core.List.{List, [], _∷_, map}
 use Prim.Native.Nat.{ℕ, _+_, _-_, _*_, _<_, _≤_}
@@ -19,7 +19,6 @@ use Rattle.model.specs.Pieces.{Piece}
 use Rattle.model.specs.Rules.{zoneBlock}
 use Rattle.model.specs.Shown.{piecesOn}
 use Rattle.model.specs.Drawing.{Drawable}
-use Rattle.model.proofs.ByPlace.{block-length}
 use Rattle.zone.specs.Lines.{IsRead}
 use Rattle.map.specs.Accepted.{ReadableFrom}
 use Rattle.edits.specs.Edits.{without, put, touches, touchedFrom, touchedZones, pairsIn, inZone}
@@ -27,7 +26,6 @@ use Rattle.edits.specs.Judge.{pairsFrom}
 use Rattle.edits.specs.Written.{written, toBlock}
 use Rattle.edits.specs.EditableMap.{EditableMap}
 use Rattle.edits.proofs.Kept.{All, all-keep}
-use Rattle.edits.proofs.Slices.{same-blocks}
 use Rattle.edits.proofs.ZonesTouched.{zone-without, zone-give, changeAt}
 use Rattle.edits.proofs.WrittenBelow.{WrittenBelow, written-starts, next-block, written-ends, written-turn}
 use Rattle.edits.proofs.EditableMap.{map-pieces, zone-pieces}
@@ -59,12 +57,12 @@ module _ {m : List ℕ} {g : Geometry} (e : EditableMap m g) (gone id : ℕ) (on
       → piecesAfter gone id (pairsFrom (take (to - from) (drop from list))) (ownedInZone g z (zoneBlock g m z)) ≡ inZone g z (newPieces g (editOf gone (pairsFrom list) id) (piecesOn g m))
   part-after {z} {from} {to} {list} h p = ap₂ (piecesAfter gone id) (part-pairs p) (sym (zone-pieces e z h)) ∙ sym (zone-after z (pairsFrom list))
 
--- each zone's block after the edit, and the map with the zones below z done
-abbrev pub blockAfter : List ℕ → Geometry → ℕ → List ℕ → ℕ → ℕ → List ℕ
-blockAfter m g gone list id z = zoneBlock g (editedMap m (editOf gone (pairsFrom list) id)) z
+-- the map after the edit, and on the way there with the zones below z done
+abbrev pub mapAfter : List ℕ → ℕ → List ℕ → ℕ → List ℕ
+mapAfter m gone list id = editedMap m (editOf gone (pairsFrom list) id)
 
 pub record Editing (m : List ℕ) (g : Geometry) (gone : ℕ) (list : List ℕ) (id : ℕ) (now : List ℕ) (start k i z : ℕ) : Type 0 where
-  pub zones : WrittenBelow (g .sector) (g .zones) (blockAfter m g gone list id) m now z
+  pub zones : WrittenBelow (g .sector) (g .zones) (mapAfter m gone list id) m now z
   pub count : k ≡ touchedCount (touchedFrom g (pairsFrom list) 0 z)
   pub few : k ≤ z
   pub pass : PassAt g list start z i
@@ -73,8 +71,8 @@ module _ {m : List ℕ} {g : Geometry} {gone : ℕ} {list : List ℕ} {id : ℕ}
   abbrev qs : List Pair
   qs = pairsFrom list
 
-  abbrev after : ℕ → List ℕ
-  after = blockAfter m g gone list id
+  abbrev after : List ℕ
+  after = mapAfter m gone list id
 
   given : EditedZones m g (editOf gone (pairsFrom list) id) (editedMap m (editOf gone (pairsFrom list) id))
   given = edited-zones (w .editable) (w .call) (editOf gone (pairsFrom list) id) (w .judged)
@@ -91,7 +89,7 @@ module _ {m : List ℕ} {g : Geometry} {gone : ℕ} {list : List ℕ} {id : ℕ}
     pieces-are = part-after (w .editable) gone id (w .one-way) h p
 
     block-is : (k touched change : ℕ) → k ≡ touchedCount (touchedFrom g (pairsFrom list) 0 z) → touched ≡ touchedCount (touchedZones g (pairsFrom list)) → change ≡ amount touched k
-        → zoneAfter g z gone part id change (zoneBlock g m z) ≡ blockAfter m g gone list id z
+        → zoneAfter g z gone part id change (zoneBlock g m z) ≡ zoneBlock g (mapAfter m gone list id) z
     block-is k touched change ek et ec =
         let block = zoneBlock g m z in
         by-test (touches g z qs)
@@ -105,13 +103,11 @@ module _ {m : List ℕ} {g : Geometry} {gone : ℕ} {list : List ℕ} {id : ℕ}
 
   module _ {now : List ℕ} {start k i z : ℕ} (v : Editing m g gone list id now start k i z) where
     pub editing-ends : g .zones ≤ z → now ≡ editedMap m (editOf gone (pairsFrom list) id)
-    editing-ends l =
-        same-blocks (g .sector) (g .zones) now (editedMap m (editOf gone qs id)) (v .zones .kept ∙ whole) (given .long ∙ whole)
-        (written-ends (g .sector) (g .zones) after m now z (v .zones) l)
+    editing-ends l = written-ends (v .zones) whole (given .long ∙ whole) l
 
     module _ (h : z < g .zones) {from to : ℕ} (p : IsPart g list z from to) where
       old-block : zoneBlock g now z ≡ zoneBlock g m z
-      old-block = next-block (g .sector) (g .zones) after m now z (v .zones) h
+      old-block = next-block (v .zones) h
 
       reads : ReadableFrom now g z
       reads = record {
@@ -134,11 +130,9 @@ module _ {m : List ℕ} {g : Geometry} {gone : ℕ} {list : List ℕ} {id : ℕ}
           → n ≡ cond (ltb from to) 1 0 → n < 2 → {s : ℕ} → PassAt g list s (z + 1) to → Editing m g gone list id next s (k + n) to (z + 1)
       editing-turn touched change n {next} et ec ln en ek hn {s} pass =
           let b = zoneAfter g z gone (part h p) id change (zoneBlock g now z) in
-          let e : b ≡ after z = ap (zoneAfter g z gone (part h p) id change) old-block ∙ block-is h p k touched change (v .count) et ec in
-          let lb : length b ≡ length (zoneBlock g now z) =
-          ap length e ∙ block-length (editedMap m (editOf gone qs id)) (g .zones) (g .sector) (given .long ∙ whole) z h ∙ sym (block-length now (g .zones) (g .sector) (v .zones .kept ∙ whole) z h) in
+          let e : b ≡ zoneBlock g after z = ap (zoneAfter g z gone (part h p) id change) old-block ∙ block-is h p k touched change (v .count) et ec in
           record {
-            zones = subst⁻¹ (λ (x : List ℕ). WrittenBelow (g .sector) (g .zones) after m x (z + 1)) en (written-turn (g .sector) (g .zones) after m now z (v .zones) whole h b lb e);
+            zones = written-turn (v .zones) whole (given .long ∙ whole) h e en;
             count = count-turn g qs z k n (ltb from to) (v .count) (part-touches p) ek;
             few = omega (arith, v .few);
             pass = pass;

@@ -227,7 +227,7 @@ pub fn piece_at(pieces: &[u32], i: usize) -> Piece
 }
 
 // Piece i becomes x.
-fn put_piece(pieces: &mut [u32], i: usize, x: Piece)
+pub fn put_piece(pieces: &mut [u32], i: usize, x: Piece)
     requires { ⌜ 3 * i + 3 ≤ length (now pieces) ⌝ }
     ensures { λ _. ⌜ now (pieces .exit) ≡ withPiece (now (pieces .entry)) i x ⌝ }
 {

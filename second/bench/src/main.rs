@@ -2,15 +2,16 @@
 //! growing size, and prints the times as Markdown tables. The reference is
 //! the yardstick: it is written to be plain, with lists on the heap.
 //!
-//! A last table is about the sweep of free space alone, against two programs
+//! Another table is about the format of blank discs. A last one is about the sweep of free space alone, against two programs
 //! that do nothing else.
 //!
 //! `--quick` makes one round, to see that all of it runs. `--before FILE.so`
-//! measures an earlier build of the product too, but for its claims and its mender, and
-//! adds a table of the two.
+//! measures an earlier build of the product too, but for its claims, its mender and its
+//! format, and adds a table of the two.
 //! `--sweeps` leaves out all tables but the last.
 
 mod discs;
+mod formats;
 mod machine;
 mod maps;
 mod sides;
@@ -22,6 +23,7 @@ use std::env;
 use std::process::ExitCode;
 use std::time::Duration;
 
+use formats::print_formats;
 use machine::machine;
 use maps::{sizes, Size, NAMES};
 use product::Calls;
@@ -65,8 +67,8 @@ fn main() -> ExitCode {
         }
     };
 
-    let good = (wanted.only_sweeps || print_calls(wanted.before, &wanted.plan))
-        && print_sweeps(wanted.before, &wanted.plan);
+    let calls = || print_calls(wanted.before, &wanted.plan) && print_formats(&wanted.plan);
+    let good = (wanted.only_sweeps || calls()) && print_sweeps(wanted.before, &wanted.plan);
     if good {
         ExitCode::SUCCESS
     } else {

@@ -2,7 +2,7 @@
 
 use product::{Answer, Calls};
 use reference::case::{Call, Case};
-use reference::{edit, map, mend, read, Refusal};
+use reference::{edit, format, map, mend, read, Refusal};
 
 use crate::maps::WINDOW;
 
@@ -80,7 +80,8 @@ fn reference(case: &Case, lent: &mut Lent) -> Answer {
             .map(|claimed| [claimed.id as u64, claimed.pairs]),
         Call::Mend => mend::mend(map).map(|_| [0; 2]),
         Call::MendPositions => one(mend::mend_positions(map, list)),
-        Call::Address | Call::SweepObject => unreachable!("not measured"),
+        Call::Format => format::format(case.number, wide, case.idlen, map).map(|_| [0; 2]),
+        Call::Address | Call::SweepObject | Call::FormatLength => unreachable!("not measured"),
         Call::ChooseCopy | Call::CopyOver | Call::CopyAddresses => unreachable!("not measured"),
     };
     let (number, zone, values) = match answer {

@@ -2,19 +2,21 @@
 //! answer and every lent byte must agree, and so must the geometry of every
 //! map. Sweeps of free space are made by the two programs of `sweep` too. Each
 //! accepted claim is released again, and its list placed where it was made. Each map is
-//! mended, and what it becomes is read, mended again and edited.
+//! mended, and what it becomes is read, mended again and edited. Discs are formatted, and
+//! their maps read and edited.
 //!
 //! SEEDS names the seeds: `N` for 0 to N-1, or `A..B` for A to B-1. If TRACE
 //! is set, each call is named before it is made, to find one that never
 //! returns. If MAP_LINES names the product's small program, that is run on the
-//! first map of some of the seeds. A few large maps of E+ discs are compared in
-//! every run.
+//! first map of some of the seeds. A few large maps of E+ discs, and a set of discs to
+//! format, are compared in every run.
 
 use std::env;
 use std::process::ExitCode;
 
 mod claims;
 mod copies;
+mod formats;
 mod large;
 mod mends;
 mod pieces;
@@ -22,13 +24,14 @@ mod program;
 
 use claims::Claims;
 use copies::Copies;
+use formats::Formats;
 use mends::Mends;
 use pieces::Pieces;
 use product::Told;
 use program::Program;
 use reference::case::{Call, Case, Outcome, CALLS};
 use reference::generate::{
-    play, play_addresses, play_claims, play_copies, play_mends, play_pieces, Sizes,
+    play, play_addresses, play_claims, play_copies, play_formats, play_mends, play_pieces, Sizes,
 };
 use reference::geometry::{DiscRecord, LARGEST_MAP};
 use reference::map::{check, only_reserved_bytes_are_wrong, CheckedMap};
@@ -179,8 +182,8 @@ fn describe(
 ) -> String {
     let mut text = format!("{of}, call {step} of it: {}\n", case.call.name());
     text += &format!(
-        "  id, n or parent {}, position, first address or size {}, fill {}\n",
-        case.number, case.wide, case.fill
+        "  id, n, parent or log2secsize {}, position, first address, size or capacity {}, idlen {}, fill {}\n",
+        case.number, case.wide, case.idlen, case.fill
     );
     text += &format!(
         "  map of {} bytes, list of {} entries, image of {} bytes\n",
@@ -239,6 +242,7 @@ struct Tally {
     pieces: Pieces,
     copies: Copies,
     mends: Mends,
+    formats: Formats,
     /// Accepted claims that were released, and whose list was placed.
     undone: u64,
     last_map: Vec<u8>,
@@ -262,6 +266,7 @@ impl Tally {
             pieces: Pieces::default(),
             copies: Copies::default(),
             mends: Mends::default(),
+            formats: Formats::default(),
             undone: 0,
             last_map: Vec::new(),
             trace,
@@ -343,6 +348,36 @@ impl Tally {
                 self.differ(lent(case), || format!("{of}, {step}: an edit refused\n"));
             }
         }
+    }
+
+    /// The discs that are formatted in every run (R-13 of document 02).
+    fn compare_discs(&mut self) {
+        for disc in formats::discs() {
+            let of = format!("{disc:?}");
+            for (case, step) in formats::calls(&disc).iter().zip(0..) {
+                let outcome = self.make(&of, step, case);
+                self.compare_formatted(&of, step, case, &outcome);
+            }
+        }
+    }
+
+    /// Counts a format. "The drawn map must be accepted and list exactly these owners", and
+    /// a claim on it is undone.
+    fn compare_formatted(&mut self, of: &str, step: u64, case: &Case, ours: &Outcome) {
+        self.formats.count(case, ours);
+        if case.call != Call::Format || ours.number != 0 {
+            return;
+        }
+        let of = format!("{of}, the map of call {step}");
+        for (case, step) in formats::readings(&ours.map).iter().zip(0..) {
+            let outcome = self.make(&of, step, case);
+            if !formats::is_in_order(case, &outcome) {
+                self.differ(lent(case), || format!("{of}, {step}: not in order\n"));
+            }
+        }
+        let claim = formats::claim(&ours.map);
+        let claimed = self.make(&of, 20, &claim);
+        self.compare_undone(&of, 20, &claim, &claimed);
     }
 
     /// "An accepted place or claim followed at once by its release, again with room" gives
@@ -484,6 +519,7 @@ impl Tally {
         );
         self.copies.print();
         self.mends.print();
+        self.formats.print();
     }
 
     /// What is wrong with the whole run, in lines; none where all agree and
@@ -512,6 +548,7 @@ impl Tally {
         lines.extend(self.pieces.complaints());
         lines.extend(self.copies.complaints(&self.compared));
         lines.extend(self.mends.complaints(&self.compared));
+        lines.extend(self.formats.complaints(&self.compared));
         lines
     }
 
@@ -553,8 +590,8 @@ fn print_row(name: &str, counts: &[u64; 18]) {
     println!("{:>9}", counts.iter().sum::<u64>());
 }
 
-/// Compares the large maps, every call of the seeds, and some maps through the
-/// small program.
+/// Compares the large maps, the discs to format, every call of the seeds, and some maps
+/// through the small program.
 fn compare(seeds: std::ops::Range<u64>, program: &mut Option<Program>) -> Tally {
     let sizes = Sizes {
         map: LARGEST_MAP,
@@ -563,6 +600,7 @@ fn compare(seeds: std::ops::Range<u64>, program: &mut Option<Program>) -> Tally 
     };
     let mut tally = Tally::new(env::var_os("TRACE").is_some());
     tally.compare_large();
+    tally.compare_discs();
     for seed in seeds {
         let of = format!("seed {seed}");
         let mut step = 0;
@@ -573,7 +611,9 @@ fn compare(seeds: std::ops::Range<u64>, program: &mut Option<Program>) -> Tally 
                 let told = program.compare(&name, &case.map);
                 told.expect("the small program runs");
             }
-            if let Some(told) = tally.compare_geometry(&of, step, &case.map) {
+            // What a disc is formatted in is no map yet.
+            let map = (!case.call.formats()).then_some(&case.map);
+            if let Some(told) = map.and_then(|map| tally.compare_geometry(&of, step, map)) {
                 tally.count(&case.map, &told);
                 tally.compare_mends(&of, step, &case.map);
             }
@@ -582,6 +622,7 @@ fn compare(seeds: std::ops::Range<u64>, program: &mut Option<Program>) -> Tally 
             tally.claims.count(case, ours);
             tally.pieces.count(case, ours);
             tally.copies.count(case, ours);
+            tally.compare_formatted(&of, step, case, ours);
             step += 1;
         };
         play(seed, &sizes, &mut visit);
@@ -590,6 +631,7 @@ fn compare(seeds: std::ops::Range<u64>, program: &mut Option<Program>) -> Tally 
         play_pieces(seed, &sizes, &mut visit);
         play_copies(seed, &sizes, &mut visit);
         play_mends(seed, &sizes, &mut visit);
+        play_formats(seed, &sizes, &mut visit);
     }
     tally
 }

@@ -21,8 +21,8 @@ const UNWRITTEN: u64 = 0xDEAD_BEEF_DEAD_BEEF;
 
 /// The functions of one version of the product that are made on one map. As `LINKED`
 /// is made of those declared, the compiler sees that the types are today's. An
-/// earlier version with other signatures cannot be compared; of address, claim and the
-/// two that mend see `opened`.
+/// earlier version with other signatures cannot be compared; of address, claim, the two
+/// that mend and the two that format see `opened`.
 /// Those on two copies (R-5 of document 02) are none of these, as they are not timed
 /// and earlier versions have none.
 #[derive(Clone, Copy)]
@@ -60,6 +60,8 @@ pub struct Calls {
     mend: unsafe extern "C" fn(*mut u8, usize, *mut u32) -> u32,
     mend_positions:
         unsafe extern "C" fn(*const u8, usize, *mut u32, usize, *mut u64, *mut u32) -> u32,
+    format: unsafe extern "C" fn(u32, u64, u32, *mut u8, usize, *mut u32) -> u32,
+    format_length: unsafe extern "C" fn(u32, u64, u32, *mut u64, *mut u32) -> u32,
 }
 
 impl Calls {
@@ -76,6 +78,8 @@ impl Calls {
         claim: shoalswift_claim,
         mend: shoalswift_mend,
         mend_positions: shoalswift_mend_positions,
+        format: shoalswift_format,
+        format_length: shoalswift_format_length,
     };
 
     /// Makes a case's call, one on one map, on the bytes and entries lent in place of
@@ -87,6 +91,7 @@ impl Calls {
         let (image, image_len) = (image.as_mut_ptr(), image.len());
         let (wide, fill, id) = (case.wide, case.fill, case.number);
         let parent = case.number;
+        let (log2secsize, idlen) = (case.number, case.idlen);
         let (mut zone, mut value, mut run) = (UNWRITTEN as u32, UNWRITTEN, UNWRITTEN);
         let mut new = zone;
         let (z, v, n) = (&mut zone, &mut value, &mut new);
@@ -109,6 +114,8 @@ impl Calls {
                 Call::Claim => (self.claim)(map, map_len, wide, parent, list, list_len, n, v, z),
                 Call::Mend => (self.mend)(map, map_len, z),
                 Call::MendPositions => (self.mend_positions)(map, map_len, list, list_len, v, z),
+                Call::Format => (self.format)(log2secsize, wide, idlen, map, map_len, z),
+                Call::FormatLength => (self.format_length)(log2secsize, wide, idlen, v, z),
                 _ => unreachable!("it is made on two copies"),
             }
         };

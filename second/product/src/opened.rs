@@ -30,8 +30,9 @@ impl Calls {
     /// # Safety
     ///
     /// The file is a build of the product whose functions have the signatures
-    /// of today, but for address, claim and the two that mend, which are not looked up.
-    /// No check could find another, so a version with one must not be opened.
+    /// of today, but for address, claim, the two that mend and the two that format, which
+    /// are not looked up. No check could find another, so a version with one must not be
+    /// opened.
     pub unsafe fn open(file: &str) -> Result<Calls, String> {
         let library = open(file)?;
         // SAFETY: the signatures are those of today, as the fields' types are.
@@ -48,6 +49,8 @@ impl Calls {
                 claim: no_claim,
                 mend: no_mend,
                 mend_positions: no_mend_positions,
+                format: no_format,
+                format_length: no_format_length,
             })
         }
     }
@@ -101,6 +104,30 @@ unsafe extern "C" fn no_mend_positions(
     _zone: *mut u32,
 ) -> u32 {
     unreachable!("the mender of an opened library is not called")
+}
+
+/// In place of the library's own format, which nobody calls: a version from before R-13 of
+/// document 02 has none.
+unsafe extern "C" fn no_format(
+    _log2secsize: u32,
+    _capacity: u64,
+    _idlen: u32,
+    _map: *mut u8,
+    _map_len: usize,
+    _zone: *mut u32,
+) -> u32 {
+    unreachable!("the format of an opened library is not called")
+}
+
+/// The same for the length of its map.
+unsafe extern "C" fn no_format_length(
+    _log2secsize: u32,
+    _capacity: u64,
+    _idlen: u32,
+    _length: *mut u64,
+    _zone: *mut u32,
+) -> u32 {
+    unreachable!("the format of an opened library is not called")
 }
 
 fn open(file: &str) -> Result<*mut c_void, String> {

@@ -2,7 +2,7 @@
 
 use std::fmt::Display;
 
-use crate::{copies, edit, map, mend, read, Refusal};
+use crate::{copies, edit, format, map, mend, read, Refusal};
 
 /// The calls, numbered as in a stored case.
 #[derive(Clone, Copy, Debug, PartialEq, Eq, PartialOrd, Ord)]
@@ -21,9 +21,11 @@ pub enum Call {
     CopyAddresses,
     Mend,
     MendPositions,
+    Format,
+    FormatLength,
 }
 
-pub const CALLS: [Call; 14] = [
+pub const CALLS: [Call; 16] = [
     Call::Check,
     Call::List,
     Call::Free,
@@ -38,10 +40,12 @@ pub const CALLS: [Call; 14] = [
     Call::CopyAddresses,
     Call::Mend,
     Call::MendPositions,
+    Call::Format,
+    Call::FormatLength,
 ];
 
 /// Those of document 01, which are made on one map. The others are about a map's two
-/// copies (R-5 of document 02), or mend a map.
+/// copies (R-5 of document 02), mend a map, or make a new one.
 pub const CALLS_ON_ONE_MAP: &[Call] = CALLS.split_at(9).0;
 
 impl Call {
@@ -61,16 +65,22 @@ impl Call {
             Call::CopyAddresses => "copy_addresses",
             Call::Mend => "mend",
             Call::MendPositions => "mend_positions",
+            Call::Format => "format",
+            Call::FormatLength => "format_length",
         }
     }
 
     /// The refusals that document 01's table allows the call, 14 left out, for claim
-    /// R-8 of document 02, for the calls on copies R-5, and for the last two R-9.
+    /// R-8 of document 02, for the calls on copies R-5, for those that mend R-9, and for
+    /// the last two R-13.
     pub fn refusals(self) -> Vec<u32> {
-        let mut numbers: Vec<u32> = (1..=7).collect();
-        if self.mends() {
-            numbers.retain(|number| !matches!(number, 3 | 4));
-        }
+        let of_the_map: &[u32] = match self {
+            Call::Format => &[1, 2],
+            Call::FormatLength => &[2],
+            _ if self.mends() => &[1, 2, 5, 6, 7],
+            _ => &[1, 2, 3, 4, 5, 6, 7],
+        };
+        let mut numbers = of_the_map.to_vec();
         numbers.extend_from_slice(match self {
             Call::Check => &[],
             Call::List => &[8, 10, 17],
@@ -84,6 +94,7 @@ impl Call {
             Call::ChooseCopy | Call::CopyOver | Call::CopyAddresses => &[],
             Call::Mend => &[],
             Call::MendPositions => &[17],
+            Call::Format | Call::FormatLength => &[],
         });
         numbers
     }
@@ -93,10 +104,15 @@ impl Call {
         matches!(self, Call::Mend | Call::MendPositions)
     }
 
+    /// Whether it makes the map of a blank disc, or tells how long that is.
+    pub fn formats(self) -> bool {
+        matches!(self, Call::Format | Call::FormatLength)
+    }
+
     /// How many numbers it answers besides the refusal's number and zone.
     pub fn values(self) -> usize {
         match self {
-            Call::Check | Call::Place | Call::CopyOver | Call::Mend => 0,
+            Call::Check | Call::Place | Call::CopyOver | Call::Mend | Call::Format => 0,
             Call::Address | Call::Claim | Call::ChooseCopy | Call::CopyAddresses => 2,
             _ => 1,
         }
@@ -119,7 +135,10 @@ impl Call {
     }
 
     pub fn writes_map(self) -> bool {
-        matches!(self, Call::Release | Call::Place | Call::Claim | Call::Mend)
+        matches!(
+            self,
+            Call::Release | Call::Place | Call::Claim | Call::Mend | Call::Format
+        )
     }
 
     pub fn writes_image(self) -> bool {
@@ -137,11 +156,15 @@ impl Call {
 pub struct Case {
     pub call: Call,
     pub fill: u8,
-    /// The id, an internal number n, or a claim's parent zone.
+    /// The id, an internal number n, a claim's parent zone, or log2secsize of a disc to
+    /// format.
     pub number: u32,
-    /// The position, first disc address or size.
+    /// The position, first disc address, size, or the capacity of a disc to format.
     pub wide: u64,
-    /// The map. Of two copies the first, or the source.
+    /// The idlen of a disc to format, and else 0.
+    pub idlen: u32,
+    /// The map. Of two copies the first, or the source. Where a disc is formatted the
+    /// buffer that is lent for it.
     pub map: Vec<u8>,
     /// The room lent for pairs or positions, with its old contents, or the list handed in.
     pub list: Vec<u32>,
@@ -169,9 +192,27 @@ impl Case {
             fill: 0,
             number: 0,
             wide: 0,
+            idlen: 0,
             map: map.to_vec(),
             list: Vec::new(),
             image: Vec::new(),
+        }
+    }
+
+    /// The format of a disc in a lent buffer, or the question for its length, which is
+    /// lent none (R-13 of document 02).
+    pub fn formatting(
+        call: Call,
+        log2secsize: u32,
+        capacity: u64,
+        idlen: u32,
+        buffer: &[u8],
+    ) -> Case {
+        Case {
+            number: log2secsize,
+            wide: capacity,
+            idlen,
+            ..Case::new(call, buffer)
         }
     }
 
@@ -207,6 +248,7 @@ impl Case {
     ) -> Result<Vec<u64>, Refusal> {
         let (id, wide, fill) = (self.number, self.wide, self.fill);
         let parent = self.number;
+        let (log2secsize, capacity, idlen) = (self.number, self.wide, self.idlen);
         let one = |answer: Result<u64, Refusal>| answer.map(|value| vec![value]);
         match self.call {
             Call::Check => map::check(map).map(|_| vec![]),
@@ -228,6 +270,8 @@ impl Case {
             }
             Call::Mend => mend::mend(map).map(|_| vec![]),
             Call::MendPositions => one(mend::mend_positions(map, list)),
+            Call::Format => format::format(log2secsize, capacity, idlen, map).map(|_| vec![]),
+            Call::FormatLength => one(format::format_length(log2secsize, capacity, idlen)),
         }
     }
 
@@ -239,7 +283,7 @@ impl Case {
         bytes.extend_from_slice(&(self.map.len() as u32).to_le_bytes());
         bytes.extend_from_slice(&(self.list.len() as u32).to_le_bytes());
         bytes.extend_from_slice(&(self.image.len() as u32).to_le_bytes());
-        bytes.extend_from_slice(&[0; 4]);
+        bytes.extend_from_slice(&self.idlen.to_le_bytes());
         bytes.extend_from_slice(&self.map);
         for entry in &self.list {
             bytes.extend_from_slice(&entry.to_le_bytes());

@@ -1,11 +1,12 @@
 //! A deterministic generator: maps over all geometries of document 01, damage
 //! to them, arguments for each call, runs of calls, claims on crowded maps, in one piece
-//! and in several, pairs of copies, and maps to mend. A seed decides all.
+//! and in several, pairs of copies, maps to mend, and discs to format. A seed decides all.
 
 use std::ops::Range;
 
 use crate::case::{Call, Case, Outcome, CALLS_ON_ONE_MAP};
 use crate::edit::{need, pieces_taken};
+use crate::format::TABLE;
 use crate::geometry::{
     DiscRecord, Edition, Geometry, MOST_ZONES, NZONES_HIGH, RESERVED, SIZE_HIGH, VERSION,
     ZONE_0_SHORTFALL,
@@ -1306,6 +1307,7 @@ pub fn arguments(rng: &mut Rng, call: Call, map: &[u8], sizes: &Sizes, memory: &
             unreachable!("copies are made in pairs")
         }
         Call::Mend | Call::MendPositions => unreachable!("maps to mend are made for it"),
+        Call::Format | Call::FormatLength => unreachable!("a disc to format has no map yet"),
     }
     case
 }
@@ -2015,6 +2017,200 @@ pub fn play_mends(seed: u64, sizes: &Sizes, visit: &mut dyn FnMut(&Case, &Outcom
     ] {
         let case = arguments(rng, call, &mended.map, sizes, &Memory::new());
         visit(&case, &case.run());
+    }
+}
+
+// ----------------------------------------------------------- discs to format
+
+/// A disc to format (R-13 of document 02). Every number of these bits may be handed in.
+#[derive(Clone, Copy, Debug, PartialEq, Eq)]
+pub struct DiscToFormat {
+    pub log2secsize: u32,
+    pub idlen: u32,
+    pub capacity: u64,
+}
+
+impl DiscToFormat {
+    /// One of the two calls on it.
+    pub fn case(&self, call: Call, buffer: &[u8]) -> Case {
+        Case::formatting(call, self.log2secsize, self.capacity, self.idlen, buffer)
+    }
+}
+
+/// The map bits of so many zones that spare 32 bits; none of no zones.
+fn bits_of_zones(sector_size: usize, nzones: usize) -> usize {
+    (nzones * (8 * sector_size - 32)).saturating_sub(ZONE_0_SHORTFALL)
+}
+
+/// A disc of few zones, all of the table's first row: mostly one or two, where object 2 and
+/// the overhang can meet, and more than an id allows now and then. It ends at a zone's end
+/// or within a few fragments of it, within a few of the last zone's start, or anywhere.
+fn disc_of_few_zones(rng: &mut Rng, largest_map: usize) -> DiscToFormat {
+    let log2secsize = rng.between(8, 10);
+    let idlen = rng.between(log2secsize + 3, 15);
+    let sector_size = 1 << log2secsize;
+    let most = (largest_map / sector_size).max(1);
+    let nzones = match rng.below(20) {
+        0..=5 => 1,
+        6..=11 => 2,
+        12..=15 => rng.between(3, 4),
+        16..=18 => rng.between(5, 16),
+        _ => rng.between(1, most),
+    };
+    let nzones = nzones.min(most);
+    let k = sector_size / 256;
+    let near = k * rng.below(3 * 16 / k);
+    let start = bits_of_zones(sector_size, nzones - 1);
+    let end = bits_of_zones(sector_size, nzones);
+    let bits = match rng.below(10) {
+        0 => end,
+        1..=3 => end - near,
+        4..=7 => start + near,
+        _ => rng.between(start, end) / k * k,
+    };
+    DiscToFormat {
+        log2secsize: log2secsize as u32,
+        idlen: idlen as u32,
+        capacity: 256 * bits as u64,
+    }
+}
+
+/// A disc of any row of the table, whose map has up to 65,024 bytes. It ends as the others
+/// do, or at one of the row's limits; where a map bit is longer than a sector, with a part
+/// of one.
+fn disc_of_a_row(rng: &mut Rng) -> DiscToFormat {
+    let log2secsize = rng.between(8, 10);
+    let sector_size = 1 << log2secsize;
+    let sector = sector_size as u64;
+    let row = rng.below(TABLE.len());
+    let (limit, log2bpmb) = TABLE[row];
+    let above = if row == 0 { 0 } else { TABLE[row - 1].0 };
+    let zones_for = |bytes: u64| {
+        let bits = (bytes >> log2bpmb) as usize + ZONE_0_SHORTFALL;
+        bits.div_ceil(8 * sector_size - 32)
+    };
+    let nzones = rng.between(zones_for(above + sector), zones_for(limit));
+    let near = rng.below(40);
+    let start = bits_of_zones(sector_size, nzones - 1);
+    let end = bits_of_zones(sector_size, nzones);
+    let bits = match rng.below(8) {
+        0 => end,
+        1 | 2 => end.saturating_sub(near),
+        3 => start,
+        4 | 5 => start + near,
+        6 => rng.between(start, end),
+        _ => rng.pick(&[above, limit]) as usize >> log2bpmb,
+    };
+    let sectors_of_a_bit = (1u64 << log2bpmb).div_ceil(sector);
+    let part = rng.pick(&[0, 0, 1, sectors_of_a_bit - 1]) * sector;
+    let capacity = ((bits as u64) << log2bpmb) + part;
+    DiscToFormat {
+        log2secsize: log2secsize as u32,
+        idlen: if rng.percent(95) { 15 } else { 14 },
+        capacity: capacity.clamp(above + sector, limit) / sector * sector,
+    }
+}
+
+/// A number that is not in range, or by chance again: its lower bits are, it is near, or
+/// it is any.
+fn out_of_range(rng: &mut Rng, inside: u32, lowest: u32, highest: u32) -> u32 {
+    let any = rng.word() as u32;
+    match rng.below(8) {
+        0 | 1 => lowest - 1,
+        2 | 3 => highest + 1,
+        4 => inside + 256,
+        5 => inside | 1 << rng.between(5, 31),
+        6 => rng.pick(&[0, 31, 32, u32::MAX, inside.wrapping_neg()]),
+        _ => any,
+    }
+}
+
+/// A capacity that is refused, or by chance again not.
+fn some_other_capacity(rng: &mut Rng, disc: &DiscToFormat) -> u64 {
+    let sector = 1u64 << disc.log2secsize.min(12);
+    let last = TABLE[TABLE.len() - 1].0;
+    let any = rng.word();
+    match rng.below(10) {
+        0 | 1 => 0,
+        2 => disc.capacity + 1,
+        3 => disc.capacity + sector / 2,
+        4 => disc.capacity | 1 << rng.between(32, 63),
+        5 => last + sector,
+        6 => last + sector * rng.between(1, 1 << 20) as u64,
+        7 => rng.pick(&[1, sector, u64::MAX, u64::MAX - sector + 1]),
+        8 => sector * (any % (last / sector)),
+        _ => any,
+    }
+}
+
+/// A disc to format: mostly one that can be, else with one number that is out of range.
+pub fn disc_to_format(rng: &mut Rng, largest_map: usize) -> DiscToFormat {
+    let mut disc = if largest_map > 1 << 16 {
+        disc_of_a_row(rng)
+    } else {
+        disc_of_few_zones(rng, largest_map)
+    };
+    if rng.percent(20) {
+        match rng.below(3) {
+            0 => disc.log2secsize = out_of_range(rng, disc.log2secsize, 8, 10),
+            1 => disc.idlen = out_of_range(rng, disc.idlen, disc.log2secsize + 3, 15),
+            _ => disc.capacity = some_other_capacity(rng, &disc),
+        }
+    }
+    disc
+}
+
+/// A buffer for a map of so many bytes, mostly as long as that, with noise, one byte all
+/// over, or 0.
+fn some_buffer(rng: &mut Rng, length: usize, sector_size: usize) -> Vec<u8> {
+    let length = match rng.below(20) {
+        0 => length + 1,
+        1 => length.saturating_sub(1),
+        2 => length + sector_size,
+        3 => length.saturating_sub(sector_size),
+        4 => rng.pick(&[0, 1, 63, 64, 2 * length]),
+        _ => length,
+    };
+    let byte = rng.byte();
+    match rng.below(4) {
+        0 => vec![0; length],
+        1 => vec![rng.pick(&[0xFF, byte]); length],
+        _ => (0..length).map(|_| rng.byte()).collect(),
+    }
+}
+
+/// Plays the format of one disc, beside the calls of `play`: its length, and the map in a
+/// lent buffer. What was formatted is read, and some of it goes through a run.
+pub fn play_formats(seed: u64, sizes: &Sizes, visit: &mut dyn FnMut(&Case, &Outcome)) {
+    // None of the maps that the other plays make.
+    let mut earlier = Rng::new(!seed);
+    earlier.word();
+    let mut rng = Rng::new(earlier.word());
+    let rng = &mut rng;
+    let largest_map = match rng.below(200) {
+        0..=3 => sizes.map,
+        4..=11 => sizes.map.min(16_384),
+        _ => sizes.map.min(2_048),
+    };
+    let disc = disc_to_format(rng, largest_map);
+    let case = disc.case(Call::FormatLength, &[]);
+    let told = case.run();
+    visit(&case, &told);
+    // Any length will do for a disc that is refused.
+    let sector_size = 1 << disc.log2secsize.min(10);
+    let length = match told.number {
+        0 => told.values[0] as usize,
+        _ => sector_size * rng.below(4),
+    };
+    let case = disc.case(Call::Format, &some_buffer(rng, length, sector_size));
+    let formatted = case.run();
+    visit(&case, &formatted);
+    if formatted.number == 0 && rng.percent(10) && largest_map <= 1 << 14 {
+        for call in CALLS_ON_ONE_MAP {
+            let case = arguments(rng, *call, &formatted.map, sizes, &Memory::new());
+            visit(&case, &case.run());
+        }
+        play_run(rng, formatted.map, sizes, visit);
     }
 }
 

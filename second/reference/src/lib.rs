@@ -9,6 +9,7 @@
 pub mod case;
 pub mod copies;
 pub mod edit;
+pub mod format;
 pub mod generate;
 pub mod geometry;
 pub mod lines;

@@ -6,7 +6,7 @@ use reference::case::{Call, Case, Outcome, CALLS};
 use reference::edit::{claim, place, release};
 use reference::generate::{
     any_map, arguments, disc_record, map_a, map_b, objects, play, play_claims, play_copies,
-    play_mends, play_pieces, valid_map, Memory, Rng, Sizes,
+    play_formats, play_mends, play_pieces, valid_map, Memory, Rng, Sizes,
 };
 use reference::geometry::{DiscRecord, Edition, Geometry, LARGEST_MAP};
 use reference::map::{check, zone_check_by_columns, zone_check_by_words};
@@ -239,6 +239,7 @@ fn refused_calls_change_nothing_and_every_refusal_is_reached() {
         play_pieces(seed, &SIZES, &mut see);
         play_copies(seed, &SIZES, &mut see);
         play_mends(seed, &SIZES, &mut see);
+        play_formats(seed, &SIZES, &mut see);
     }
     for call in CALLS {
         assert!(reached.contains_key(&(call, 0)), "{call:?} never accepted");

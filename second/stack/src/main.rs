@@ -3,7 +3,8 @@
 //! the header says more than is aimed at.
 //!
 //! The calls are made on maps with the most fragments to a zone, and on those
-//! that the generator makes, refused ones too.
+//! that the generator makes, refused ones too. Discs are formatted from the smallest to the
+//! largest there are.
 
 mod maps;
 mod painted;
@@ -14,7 +15,9 @@ use std::process::ExitCode;
 use maps::{subjects, Subject};
 use painted::Painted;
 use reference::case::{Case, Outcome, CALLS};
-use reference::generate::{play, play_claims, play_copies, play_mends, play_pieces, Sizes};
+use reference::generate::{
+    play, play_claims, play_copies, play_formats, play_mends, play_pieces, Sizes,
+};
 use reference::geometry::LARGEST_MAP;
 
 const HEADER: &str = include_str!("../../../include/shoalswift.h");
@@ -94,6 +97,7 @@ fn measured() -> Vec<Row> {
         play_pieces(seed, &sizes, &mut visit);
         play_copies(seed, &sizes, &mut visit);
         play_mends(seed, &sizes, &mut visit);
+        play_formats(seed, &sizes, &mut visit);
     }
     rows
 }

@@ -259,7 +259,46 @@ fn both_mends(map: &[u8]) -> [Case; 3] {
     [mend, all, positions(count.saturating_sub(1))]
 }
 
-/// Every call, on every map. That of the most ids is large, and has one layout.
+/// Mbytes of 1,048,576 bytes.
+const MBYTE: u64 = 1 << 20;
+
+/// The calls that format a disc (R-13 of document 02): one whose map has no free fragment,
+/// floppies, and the table's limits, with every block size; in a buffer as long as the map
+/// and in one that is too short. Then discs that are refused.
+fn formats() -> Vec<Subject> {
+    let mut subjects = Vec::new();
+    for log2secsize in 8..=10 {
+        let mut capacities = vec![16 * 256, 819_200, 1_638_400];
+        for limit in [124, 249, 499, 999].map(|mbytes| mbytes * MBYTE) {
+            capacities.extend([limit, limit + (1 << log2secsize)]);
+        }
+        capacities.extend([0, 1 << log2secsize, 819_201]);
+        for capacity in capacities {
+            subjects.extend(formats_of(log2secsize, capacity));
+        }
+    }
+    subjects
+}
+
+/// Both calls on one disc.
+fn formats_of(log2secsize: u32, capacity: u64) -> Vec<Subject> {
+    let case = |call, buffer: &[u8]| Case::formatting(call, log2secsize, capacity, 15, buffer);
+    let length = case(Call::FormatLength, &[]);
+    let bytes = length.run().values[0] as usize;
+    let on = format!("a disc of {capacity} bytes, blocks of {}", 1 << log2secsize);
+    let mut cases = vec![length];
+    for lent in [bytes, bytes.saturating_sub(1)] {
+        cases.push(case(Call::Format, &vec![0xFF; lent]));
+    }
+    let subject = |case| Subject {
+        on: on.clone(),
+        case,
+    };
+    cases.into_iter().map(subject).collect()
+}
+
+/// Every call, on every map, and every disc to format. The map of the most ids is large,
+/// and has one layout.
 pub fn subjects() -> Vec<Subject> {
     let mut subjects = Vec::new();
     for record in records() {
@@ -271,6 +310,7 @@ pub fn subjects() -> Vec<Subject> {
     for record in records().into_iter().chain([most_ids()]) {
         subjects.extend(on_packed(&record));
     }
+    subjects.extend(formats());
     subjects
 }
 

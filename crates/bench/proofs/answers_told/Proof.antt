@@ -11,9 +11,11 @@ use Rattle.bits.specs.Bits.{Bytes}
 use Rattle.bits.proofs.Tests.{by-test}
 use Rattle.model.specs.Answer.{Answer, refused, answered}
 use Rattle.model.specs.Chain.{Pair, numbersOf}
+use Rattle.model.specs.Check.{mapRead}
 use Rattle.model.proofs.Lists.{length-numbers}
 use Rattle.model.proofs.LinesJudged.{table-answered}
-use Rattle.map.specs.Checked.{checkTold}
+use Rattle.map.specs.Checked.{Checks, checkTold, checkNumbers}
+use Rattle.map.specs.declared.Checked.{Checked}
 use Rattle.listing.specs.Listed.{Lists, listNumbers, listTold, listAfter}
 use Rattle.listing.specs.declared.Listed.{Listed}
 use Rattle.address.specs.Address.{addressTold}
@@ -38,7 +40,12 @@ use Rattle.mended.proofs.Positions.{positions-listed, positions-exact}
 use Rattle.mend.specs.Mends.{mendTold, Mending, positionsTold, positionsAfter, ListsChanges}
 use Rattle.mend.specs.declared.Mended.{Mended}
 use Rattle.mend.specs.declared.Changes.{Changes}
-use Rattle.bench.specs.Tells.{ListTells, ReleaseTells, ClaimTells, ChoiceTells, PositionsTells}
+use Rattle.formatted.specs.Drawn.{formatFound, bufferAfter, lengthFound}
+use Rattle.formatted.proofs.MapDrawn.{formats, wanted}
+use Rattle.format.specs.Formats.{formatNumbers, formatTold, Formatting, lengthAnswer, lengthTold, TellsLength}
+use Rattle.format.specs.declared.Formatted.{Formatted}
+use Rattle.format.specs.declared.MapLength.the-variants as long
+use Rattle.bench.specs.Tells.{ListTells, ReleaseTells, ClaimTells, ChoiceTells, PositionsTells, FormatTells}
 use Rattle.bench.proofs.answers_told.Statement.{statement}
 use Rattle.bench.proofs.answers_told.Tie as tie
 
@@ -124,6 +131,28 @@ chosen a b told handed p =
     same-flag (answered second) e = refl
     same-flag (refused n z) e = refl
 
+drawn : (logsector capacity idlen : ℕ) (old : List ℕ) (r : Formatted) (after : List ℕ) → Formatting logsector capacity idlen old r after
+    → FormatTells (formatFound logsector capacity idlen (length old)) old r after
+drawn logsector capacity idlen old r after p = record {
+  refused-told = λ n z e. (p .numbers ∙ ap formatTold e, p .bytes ∙ ap (bufferAfter old) e);
+  accepted-told = λ m e. (p .numbers ∙ ap formatTold e, p .bytes ∙ ap (bufferAfter old) e);
+}
+
+-- a length that is told is the one that was found
+length-found : (found : Answer ℕ) (n : ℕ) → long.Bytes n ≡ lengthAnswer found → found ≡ answered n
+length-found (refused k z) n e = absurd (let z : _≡_ {A = ℕ} 0 1 = cc in omega arith)
+length-found (answered k) n e = let same : n ≡ k = cc in ap answered (sym same)
+
+length-drawn : (logsector capacity idlen n : ℕ) → TellsLength logsector capacity idlen (long.Bytes n)
+    → (old : List ℕ) → length old ≡ n → (s : Formatted) (after : List ℕ) → Formatting logsector capacity idlen old s after
+    → (q : Checked) → Checks after q → (formatNumbers s ≡ (0, 0)) × (checkNumbers q ≡ (0, 0))
+length-drawn logsector capacity idlen n p old l s after f q c =
+    let w = wanted logsector capacity idlen n (length-found (lengthFound logsector capacity idlen) n (p .answer)) in
+    let d : formatFound logsector capacity idlen (length old) ≡ answered (w .0) = ap (formatFound logsector capacity idlen) l ∙ w .1 in
+    let t = drawn logsector capacity idlen old s after f .accepted-told (w .0) d in
+    let ed = formats logsector capacity idlen n (w .0) (w .1) .in-order in
+    (t .0, c .numbers ∙ ap checkTold (ap mapRead (t .1) ∙ ed .accepted))
+
 returns : tie.Need-returns
 returns c = record {
   checks = λ m r p. record { refused-told = λ n z e. p .numbers ∙ ap checkTold e; accepted-told = λ ess e. p .numbers ∙ ap checkTold e };
@@ -150,6 +179,9 @@ returns c = record {
   };
   positions = changed;
   listed-changed = listed-changed;
+  formats = drawn;
+  lengths = λ logsector capacity idlen r p. record { refused-told = λ n z e. p .numbers ∙ ap lengthTold e; accepted-told = λ n e. p .numbers ∙ ap lengthTold e };
+  length-drawn = length-drawn;
   locates = λ m r p. record { refused-told = λ n z e. p .numbers ∙ ap addressesTold e; accepted-told = λ l e. p .numbers ∙ ap addressesTold e };
   returned-placed = λ m ed id old r after new p qs e s end q.
       (let t = placed-back m ed id old r after new p qs e s end q in (q .numbers ∙ ap placeTold (t .0), t .1));

@@ -4,6 +4,7 @@ use mathlib.Core.List.{List, [], _∷_}
 use Prim.Native.Nat.{ℕ}
 use native.Mathlib.Omega.{arith}
 use lib.ListN.{getD, drop}
+use lib.Count.{trailingZeros}
 use Rattle.checks.specs.Words.{zoneCheck, wordsOf, total}
 use Rattle.checks.specs.Maps.{mapA, mapB, mapD}
 use Rattle.geometry.specs.declared.Geometry.{Geometry}
@@ -22,6 +23,8 @@ use Rattle.copies.specs.declared.Located.the-variants as located
 use Rattle.mend.specs.declared.Mended.the-variants as mended
 use Rattle.mend.specs.declared.Changes.{Changes}
 use Rattle.mend.specs.declared.Changes.the-variants as changes
+use Rattle.format.specs.declared.Formatted.the-variants as formatted
+use Rattle.format.specs.declared.MapLength.the-variants as long
 use Rattle.bench.specs.Table.{touchingD}
 use Rattle.bench.proofs.empty_programs.Statement.{statement}
 use Rattle.bench.proofs.empty_programs.Tie as tie
@@ -57,6 +60,12 @@ mended-refused e = let z : _≡_ {A = ℕ} 0 1 = cc in omega arith
 positions-refused : {n : ℕ} {r : Refusal} → changes.Positions n ≡ changes.Refused r → ⊥
 positions-refused e = let z : _≡_ {A = ℕ} 0 1 = cc in omega arith
 
+formatted-refused : {r : Refusal} → formatted.Done ≡ formatted.Refused r → ⊥
+formatted-refused e = let z : _≡_ {A = ℕ} 0 1 = cc in omega arith
+
+told-refused : {n : ℕ} {r : Refusal} → long.Bytes n ≡ long.Refused r → ⊥
+told-refused e = let z : _≡_ {A = ℕ} 0 1 = cc in omega arith
+
 -- how many positions
 abbrev listed-many : Changes → ℕ
 listed-many (changes.Positions n) = n
@@ -64,6 +73,10 @@ listed-many (changes.Refused r) = 0
 
 abbrev second : List ℕ → ℕ
 second l = getD l 1 0
+
+-- a disc that can be formatted, of a map as long as A's: log2secsize, capacity, idlen
+abbrev disc : ℕ × ℕ × ℕ
+disc = (8, 393216, 11)
 
 -- four bytes of a stretch
 abbrev four : List ℕ
@@ -92,7 +105,7 @@ abbrev byte : List ℕ → ℕ
 byte l = getD l 0 0
 
 returns : tie.Need-returns
-unfolding zoneCheck wordsOf total
+unfolding zoneCheck wordsOf total trailingZeros
 returns c =
     record {
       check = record {
@@ -175,6 +188,15 @@ returns c =
       };
       positions-written-never = λ h. let e : _≡_ {A = ℕ} 1 256 = ap (λ (l : List ℕ). getD l 0 0) (h touchingD four .1 .list) in omega arith;
       positions-of-all = λ h. let k = h mapA lent in let e : _≡_ {A = ℕ} 256 0 = sym (ap listed-many (k .3)) ∙ ap listed-many (k .2 .answer) in omega arith;
+      format = record {
+        refuses = λ h. formatted-refused (sym (h mapA disc .2 .answer));
+        one-answer = λ h. let k = h disc .1 in formatted-refused (sym (k mapA .1 .answer) ∙ k [] .1 .answer);
+      };
+      format-writes-nothing = λ h. let e : _≡_ {A = ℕ} 0xC7 0xD7 = ap (λ (l : List ℕ). getD l 0 0) (h mapA disc .1 .bytes) in omega arith;
+      format-only-clears = λ h. let e : _≡_ {A = ℕ} 0 0xD7 = ap (λ (l : List ℕ). getD l 0 0) (h mapA disc .1 .bytes) in omega arith;
+      format-one-map = λ h. let k = h mapA .2 in formatted-refused (sym (k disc .answer) ∙ k (8, 0, 11) .answer);
+      length-never = λ h. told-refused (sym (h disc .1 .answer));
+      length-same = λ h. told-refused (sym (h .1 disc .answer) ∙ h .1 (8, 0, 11) .answer);
     }
 
 pub empty-programs-spec : {M : Type 1} → statement M

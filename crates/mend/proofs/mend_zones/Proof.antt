@@ -4,7 +4,6 @@ use Prim.Native.Nat.{_-_}
 use native.Mathlib.Omega.{arith}
 use lib.ListN.{length}
 use Rattle.bits.proofs.Bytes.{all-bytes}
-use Rattle.model.specs.Rules.{zoneBlock}
 use Rattle.edits.proofs.WrittenBelow.{WrittenBelow, written-starts}
 use Rattle.mended.specs.Mended.{mended}
 use Rattle.mend.proofs.ZonesInTurn.{next-mend, mending-turn, mending-ends}
@@ -13,7 +12,7 @@ use Rattle.mend.proofs.mend_zones.Statement.{statement}
 use Rattle.mend.proofs.mend_zones.Tie as tie
 
 abbrev Inv-loop : tie.InvT-loop
-Inv-loop map₀ g zones pieces₀ lack z₀ map pieces z = (length pieces ≡ 2048) × WrittenBelow (g .sector) (g .zones) (zoneBlock g (mended map₀)) map₀ map z
+Inv-loop map₀ g zones pieces₀ lack z₀ map pieces z = (length pieces ≡ 2048) × WrittenBelow (g .sector) (g .zones) (mended map₀) map₀ map z
 
 abbrev μ-loop : tie.MeasureT-loop
 μ-loop map₀ g zones pieces₀ lack z₀ map pieces z = g .zones - z
@@ -21,7 +20,7 @@ abbrev μ-loop : tie.MeasureT-loop
 loop-holds : tie.Need-loop-holds Inv-loop μ-loop
 loop-holds c =
     let a = c .before .before .before .args in
-    (search needs, written-starts (a .g .sector) (a .g .zones) (zoneBlock (a .g) (mended (a .map .now))) (a .map .now))
+    (search needs, written-starts (a .g .sector) (a .g .zones) (mended (a .map .now)) (a .map .now))
 
 mend-zone-requires : tie.Need-mend-zone-requires Inv-loop μ-loop
 mend-zone-requires c κs =

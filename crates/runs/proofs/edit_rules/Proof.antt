@@ -22,7 +22,7 @@ use Rattle.runs.proofs.NeverFourteen.{never-fourteen}
 use Rattle.runs.proofs.ZonesTried.{zones-tried}
 use Rattle.edits.proofs.Chosen.{need-long}
 use Rattle.edits.proofs.ClustersKept.{need-clusters}
-use Rattle.runs.proofs.NeedRules.{need-enough, need-least}
+use Rattle.edits.proofs.NeedRules.{need-enough, need-least}
 use Rattle.runs.proofs.edit_rules.Statement.{statement}
 use Rattle.runs.proofs.edit_rules.Tie as tie
 

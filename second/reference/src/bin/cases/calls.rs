@@ -128,6 +128,16 @@ impl Cases {
         case.list = vec![OLD_ENTRY; entries];
         self.add(case)
     }
+
+    pub fn format(&mut self, log2secsize: u32, capacity: u64, idlen: u32, buffer: &[u8]) -> Answer {
+        let call = Call::Format;
+        self.add(Case::formatting(call, log2secsize, capacity, idlen, buffer))
+    }
+
+    pub fn format_length(&mut self, log2secsize: u32, capacity: u64, idlen: u32) -> Answer {
+        let call = Call::FormatLength;
+        self.add(Case::formatting(call, log2secsize, capacity, idlen, &[]))
+    }
 }
 
 /// A case as the library answered it.
@@ -216,7 +226,7 @@ impl Answer {
         assert_eq!(self.outcome.values, [0, equal as u64]);
     }
 
-    /// A mend is accepted and leaves this map.
+    /// A mend or a format is accepted and leaves this map.
     #[track_caller]
     pub fn leaves(self, map: &[u8]) {
         assert!(self.done() == map);

@@ -1,0 +1,2 @@
+pub mod Zones
+pub mod Formats
