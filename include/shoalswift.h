@@ -12,7 +12,7 @@
  * A map is the blocks of all zones, zone 0 first. Lists are pairs of 32-bit numbers: disc bit, length in map bits; that of mend_positions has one number for each.
  *
  *  1  map shorter than 64 bytes, or not nzones*S;        10  id not on the map
- *     copy_over: lengths that differ                     11  id already on the map (place)
+ *     copy_over, format: another length                  11  id already on the map (place)
  *  2  record outside its ranges, or bytes of the map     12  list empty, odd, out of object order, overlapping, across zones, off
  *     not 0 that have to be (36 to 63; E+: 40 to 43);        the map, not in clusters or too short; claim of 0 bytes, or
  *     format: no map can be drawn for such a disc            with a parent zone that is not on the disc

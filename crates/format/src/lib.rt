@@ -37,12 +37,12 @@ pub enum MapLength {
 }
 
 // A disc that can be formatted: its record, and the geometry that this gives.
-pub struct BlankDisc {
-    pub fields: DiscRecord,
-    pub geometry: Geometry,
+struct BlankDisc {
+    fields: DiscRecord,
+    geometry: Geometry,
 }
 
-pub enum Planned {
+enum Planned {
     Disc(BlankDisc),
     Refused(Refusal),
 }

@@ -50,6 +50,7 @@ objectTwo g = pair (middleBit g) (cutBits (g .shortest) (copiesNeed g) (middleRo
 abbrev pub lastFrom : Geometry → ℕ
 lastFrom g = max (zoneFrom g (g .zones - 1)) (objectTwo g .start + objectTwo g .len)
 
+-- where there is no overhang it is the map's end, as neither object 2 nor a whole zone leaves a shorter stretch there
 abbrev pub objectOneFrom : Geometry → ℕ
 objectOneFrom g = cond (ltb (overhangFrom g - lastFrom g) (g .shortest)) (lastFrom g) (overhangFrom g)
 
