@@ -11,14 +11,14 @@ use map::Checked;
 
 // Where a byte of an object lies on the disc, and how many bytes there are from it to its piece's end, itself included: they lie
 // at `address` and straight after it, and the object's next byte is in another piece, even one that touches.
-#[derive(Drop)]
+#[derive(Clone, Copy)]
 pub struct Location {
     pub address: u64,
     pub run: u64,
 }
 
 // Where a byte lies, or a refusal.
-#[derive(Drop)]
+#[derive(Clone, Copy)]
 pub enum Reached {
     At(Location),
     Refused(Refusal),
@@ -89,7 +89,7 @@ fn start_offset(g: Geometry, n: u32) -> usize
 }
 
 // Where a byte lies, or how far past the pieces.
-#[derive(Drop)]
+#[derive(Clone, Copy)]
 enum Seek {
     At(Location),
     Past(usize),

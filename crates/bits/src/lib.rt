@@ -63,7 +63,7 @@ pub fn write_number(s: &mut [u8], at: usize, n: usize, v: u32)
 }
 
 // How many bits of a number were written, and what is left of it.
-#[derive(Drop)]
+#[derive(Clone, Copy)]
 struct Rest {
     bits: usize,
     left: u32,

@@ -14,14 +14,14 @@ use fragment::link_from;
 use geometry::{BlockBit, DiscBit, Geometry};
 
 // Where a walk stands: at the free fragment that starts at `at` in a zone, or past the last zone.
-#[derive(Drop)]
+#[derive(Clone, Copy)]
 pub struct FreeWalk {
     pub zone: usize,
     pub at: BlockBit,
 }
 
 // The free fragment at which a walk stood, by its first disc bit and its length, and where the walk stands after it.
-#[derive(Drop)]
+#[derive(Clone, Copy)]
 pub struct FreeStep {
     pub start: DiscBit,
     pub len: u32,

@@ -73,7 +73,7 @@ fn fold_bytes(t: usize) -> u8
 }
 
 // The four byte columns of document 000: all but the last below 256, the last with its carry still in it.
-#[derive(Drop)]
+#[derive(Clone, Copy)]
 pub struct Columns {
     pub v0: u32,
     pub v1: u32,

@@ -30,7 +30,7 @@ use map::Checked;
 use walk::Touching;
 
 // The id and how many pairs it was given, or a refusal.
-#[derive(Drop)]
+#[derive(Clone, Copy)]
 pub enum Claimed {
     Pairs { id: u32, pairs: usize },
     Refused(Refusal),
@@ -185,7 +185,7 @@ pub fn need_of(g: Geometry, size: u64) -> usize
 }
 
 // A hole by its first bit and its length, or none.
-#[derive(Drop)]
+#[derive(Clone, Copy)]
 enum Hole {
     None,
     At(DiscBit, u32),

@@ -17,21 +17,21 @@ use geometry::{Geometry, Refusal, refuse};
 use map::Checked;
 
 // The source is written over the target, or a refusal.
-#[derive(Drop)]
+#[derive(Clone, Copy)]
 pub enum Copied {
     Done,
     Refused(Refusal),
 }
 
 // The disc addresses of the two copies.
-#[derive(Drop)]
+#[derive(Clone, Copy)]
 pub struct Addresses {
     pub first: u64,
     pub second: u64,
 }
 
 // Where the copies lie, or a refusal.
-#[derive(Drop)]
+#[derive(Clone, Copy)]
 pub enum Located {
     At(Addresses),
     Refused(Refusal),

@@ -15,34 +15,34 @@ use geometry::{DiscBit, DiscRecord, Geometry, Refusal, refuse};
 use writer::Piece;
 
 // The map is drawn, or a refusal.
-#[derive(Drop)]
+#[derive(Clone, Copy)]
 pub enum Formatted {
     Done,
     Refused(Refusal),
 }
 
 // How many bytes the map of a disc has, or a refusal.
-#[derive(Drop)]
+#[derive(Clone, Copy)]
 pub enum MapLength {
     Bytes(usize),
     Refused(Refusal),
 }
 
 // A disc that can be formatted: its record, and the geometry that this gives.
-#[derive(Drop)]
+#[derive(Clone, Copy)]
 struct BlankDisc {
     fields: DiscRecord,
     geometry: Geometry,
 }
 
-#[derive(Drop)]
+#[derive(Clone, Copy)]
 enum Planned {
     Disc(BlankDisc),
     Refused(Refusal),
 }
 
 // A row of source document 001's table: on discs of up to so many Mbytes, of 1,048,576 bytes, a map bit has so many bytes.
-#[derive(Drop)]
+#[derive(Clone, Copy)]
 struct UnitRow(u64, usize);
 
 const UNITS: [UnitRow; 4] = [

@@ -17,14 +17,14 @@ ghost use Rattle.fragment.specs.Reading.{id_at, length_at};
 use geometry::BlockBit;
 
 // What stands at a place: a whole fragment, or bits that break the fragment rule (refusal 6).
-#[derive(Drop)]
+#[derive(Clone, Copy)]
 pub enum Found {
     Whole { id: u32, len: usize },
     Broken,
 }
 
 // A fragment read: its id and its length.
-#[derive(Drop)]
+#[derive(Clone, Copy)]
 pub struct FragmentRead {
     pub id: u32,
     pub len: usize,

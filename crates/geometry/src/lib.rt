@@ -11,7 +11,7 @@ ghost use Rattle.geometry.specs.Laws.{GeometryLaws};
 use bits::{both, minus, wide, zero_run};
 
 // The fields of a disc record that are judged, by document 01's names.
-#[derive(Drop)]
+#[derive(Clone, Copy)]
 pub struct DiscRecord {
     pub logsector: usize, // log2secsize
     pub idlen: usize,
@@ -23,7 +23,7 @@ pub struct DiscRecord {
 }
 
 // What a disc record fixes, by document 01's letters.
-#[derive(Drop)]
+#[derive(Clone, Copy)]
 pub struct Geometry {
     pub sector: usize, // S, the bytes of a sector and of a block
     pub idlen: usize, // the bits of an id
@@ -39,21 +39,21 @@ pub struct Geometry {
 }
 
 // A numbered refusal of document 01's table, with the zone told.
-#[derive(Drop)]
+#[derive(Clone, Copy)]
 pub struct Refusal {
     pub number: u32,
     pub zone: u32,
 }
 
 // The geometry that a record gives, or a refusal.
-#[derive(Drop)]
+#[derive(Clone, Copy)]
 pub enum RecordRead {
     Accepted(Geometry),
     Refused(Refusal),
 }
 
 // A start zone, or a refusal.
-#[derive(Drop)]
+#[derive(Clone, Copy)]
 pub enum Start {
     Zone(usize),
     Refused(Refusal),
@@ -61,10 +61,10 @@ pub enum Start {
 
 // A bit within a zone's block, and a bit of the disc: two kinds of number. `Geometry::disc_bit` and `Geometry::block_bit` alone lead from
 // one to the other. A disc bit is a number of a list, so it has 32 bits.
-#[derive(Drop)]
+#[derive(Clone, Copy)]
 pub struct BlockBit(pub usize);
 
-#[derive(Drop)]
+#[derive(Clone, Copy)]
 pub struct DiscBit(pub u32);
 
 // The geometry that a map's record gives. Refused: 1 where the map is under 64 bytes, 2 where the record is outside its

@@ -16,7 +16,7 @@ use bits::{both, larger, minus};
 use geometry::{DiscBit, Geometry};
 
 // All holes: their bits together, and the first one of the longest, which has no bits where there is no hole.
-#[derive(Drop)]
+#[derive(Clone, Copy)]
 pub struct AllHoles {
     pub bits: usize,
     pub start: DiscBit,
@@ -24,7 +24,7 @@ pub struct AllHoles {
 }
 
 // The threshold: holes longer than `len` go whole, and those of `len` bits are to give `rest` bits.
-#[derive(Drop)]
+#[derive(Clone, Copy)]
 pub struct Threshold {
     pub len: usize,
     pub rest: usize,
@@ -111,7 +111,7 @@ pub fn cut_of(g: Geometry, remains: usize, len: u32) -> u32
 }
 
 // What a hole gives: its first `len` bits, or nothing; and what the holes of the threshold's length that follow are still to give.
-#[derive(Drop)]
+#[derive(Clone, Copy)]
 struct Given {
     taken: bool,
     len: u32,

@@ -12,7 +12,7 @@ use geometry::{DiscBit, Geometry, Refusal, Start, refuse};
 use map::Checked;
 
 // How many pairs were written, or a refusal.
-#[derive(Drop)]
+#[derive(Clone, Copy)]
 pub enum Listed {
     Pairs(usize),
     Refused(Refusal),

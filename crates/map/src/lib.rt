@@ -11,7 +11,7 @@ use geometry::{Geometry, RecordRead, Refusal};
 use zone::ZoneVerdict;
 
 // An accepted map's geometry, or a refusal.
-#[derive(Drop)]
+#[derive(Clone, Copy)]
 pub enum Checked {
     Accepted(Geometry),
     Refused(Refusal),
@@ -58,7 +58,7 @@ fn check_blocks(map: &[u8], g: Geometry, checks: bool) -> Checked
 }
 
 // Check bytes that are right, or a refusal.
-#[derive(Drop)]
+#[derive(Clone, Copy)]
 enum CheckBytes {
     Right,
     Refused(Refusal),
@@ -84,7 +84,7 @@ fn check_bytes(map: &[u8], g: Geometry, checks: bool) -> CheckBytes
 }
 
 // The first zone whose check differs.
-#[derive(Drop)]
+#[derive(Clone, Copy)]
 enum FirstDiffering {
     None,
     Zone(u32),

@@ -16,7 +16,7 @@ use map::Checked;
 use walk::Walk;
 
 // What is left to print: the lines of an accepted map from a fragment on, a refusal, or nothing.
-#[derive(Drop)]
+#[derive(Clone, Copy)]
 pub enum Left {
     Lines(Geometry, Walk),
     Refused(Refusal),
@@ -24,7 +24,7 @@ pub enum Left {
 }
 
 // How many bytes of the buffer are the next part of the text, and what is left after it.
-#[derive(Drop)]
+#[derive(Clone, Copy)]
 pub struct TextPart {
     pub len: usize,
     pub left: Left,

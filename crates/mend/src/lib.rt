@@ -17,14 +17,14 @@ use geometry::{Geometry, Refusal, refuse};
 use map::Checked;
 
 // The map is mended, or a refusal.
-#[derive(Drop)]
+#[derive(Clone, Copy)]
 pub enum Mended {
     Done,
     Refused(Refusal),
 }
 
 // How many positions were listed, or a refusal.
-#[derive(Drop)]
+#[derive(Clone, Copy)]
 pub enum Changes {
     Positions(usize),
     Refused(Refusal),

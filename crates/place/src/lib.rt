@@ -21,7 +21,7 @@ use map::Checked;
 use walk::Touching;
 
 // The pieces are placed, or a refusal.
-#[derive(Drop)]
+#[derive(Clone, Copy)]
 pub enum Placed {
     Done,
     Refused(Refusal),

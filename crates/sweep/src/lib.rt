@@ -11,7 +11,7 @@ use geometry::{DiscBit, Geometry, Refusal, refuse};
 use map::Checked;
 
 // How many addresses of the stretch were of the class, or a refusal.
-#[derive(Drop)]
+#[derive(Clone, Copy)]
 pub enum Swept {
     Count(u64),
     Refused(Refusal),

@@ -12,7 +12,7 @@ use fragment::next_after;
 use geometry::{BlockBit, DiscBit, Geometry};
 
 // Where a walk stands: at the fragment that starts at `at` in a zone, where the free chain leads next to `chain`, or past the last zone.
-#[derive(Drop)]
+#[derive(Clone, Copy)]
 pub struct Walk {
     pub zone: usize,
     pub at: BlockBit,
@@ -20,7 +20,7 @@ pub struct Walk {
 }
 
 // A fragment: its zone, its holder (0 for a free one), its first disc bit, its length.
-#[derive(Drop)]
+#[derive(Clone, Copy)]
 pub struct Line {
     pub zone: usize,
     pub holder: u32,
@@ -29,7 +29,7 @@ pub struct Line {
 }
 
 // The fragment at which a walk stood, and where it stands after it.
-#[derive(Drop)]
+#[derive(Clone, Copy)]
 pub struct Step {
     pub line: Line,
     pub after: Walk,
@@ -100,7 +100,7 @@ fn holder(free: bool, id: u32) -> u32
 }
 
 // The lowest zone in which two free fragments touch (refusal 9).
-#[derive(Drop)]
+#[derive(Clone, Copy)]
 pub enum Touching {
     None,
     Zone(u32),

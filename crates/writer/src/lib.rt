@@ -151,7 +151,7 @@ fn merge_pairs(pieces: &mut [u32], n: usize, list: &[u32], id: u32)
 }
 
 // What is left of a merge: so many pieces, and so many pairs.
-#[derive(Drop)]
+#[derive(Clone, Copy)]
 struct Unmerged {
     pieces: usize,
     pairs: usize,
@@ -203,7 +203,7 @@ fn starts_after(pieces: &[u32], i: usize, start: DiscBit) -> bool
 }
 
 // A piece in a list of pieces.
-#[derive(Drop)]
+#[derive(Clone, Copy)]
 pub struct Piece {
     pub owner: u32,
     pub start: DiscBit,
@@ -233,7 +233,7 @@ pub fn put_piece(pieces: &mut [u32], i: usize, x: Piece)
 }
 
 // A pair of a list that is handed in.
-#[derive(Drop)]
+#[derive(Clone, Copy)]
 pub struct Pair {
     pub start: DiscBit,
     pub len: u32,
@@ -251,7 +251,7 @@ pub fn pair_at(list: &[u32], i: usize) -> Pair
 }
 
 // The pairs of one zone: the part of a list from an entry to the one after its last. `start` is the zone of the list's first pair.
-#[derive(Drop)]
+#[derive(Clone, Copy)]
 pub struct Part {
     pub start: usize,
     pub from: usize,

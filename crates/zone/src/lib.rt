@@ -13,7 +13,7 @@ use fragment::{Found, next_after};
 use geometry::{BlockBit, Geometry};
 
 // A zone that keeps the rules, or the number that it is refused with.
-#[derive(Drop)]
+#[derive(Clone, Copy)]
 pub enum ZoneVerdict {
     Kept,
     Broken(u32),
