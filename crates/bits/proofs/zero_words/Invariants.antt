@@ -1,0 +1,15 @@
+-- The zeros of the words passed and those still ahead are all of them.
+use Prim.Native.Nat.{◌+◌, ◌-◌, ◌*◌, ◌/◌, ◌%◌, ◌≤◌}
+use mathlib.Core.Path.{◌≡◌}
+use lib.Seq.{slice}
+use native.Mathlib.Omega.{arith}
+use Rattle.bits.specs.Bits.{byte_bits, zeros}
+use Rattle.bits.proofs.Words.{zero_word}
+use borrow.Author.Rules.{rules}
+use Rattle.bits.proofs.zero_words.Given as goal
+
+abbrev pub invariant-loop-n : goal.invariant-loop-n
+invariant-loop-n l = (l.n ≤ (l.end - l.j) / 64) × (zeros (slice l.j l.end (byte_bits l.s)) ≡ 64 * l.n + zeros (slice (l.j + 64 * l.n) l.end (byte_bits l.s)))
+
+abbrev pub decreases-loop-n : goal.decreases-loop-n
+decreases-loop-n l = (l.end - l.j) / 64 - l.n

@@ -1,0 +1,13 @@
+-- From the last whole word down: k has the column sums of the words passed.
+use Prim.Native.Nat.{ℕ, ◌≤◌, ◌<◌, ◌%◌}
+use mathlib.Core.Path.{◌≡◌, ◌∙◌}
+use lib.ListN.{length, get_or}
+use borrow.Author.Rules.{rules}
+use Rattle.checks.proofs.Sums.{Summed, summed_start, summed_turn, column_end, column_short}
+use Rattle.checks.proofs.column_check.Given as goal
+
+abbrev pub invariant-loop-i : goal.invariant-loop-i
+invariant-loop-i l = (4 ≤ l.i) × (l.i ≤ length l.block) × (l.i % 4 ≡ 0) × Summed l.block l.i l.k
+
+abbrev pub decreases-loop-i : goal.decreases-loop-i
+decreases-loop-i l = l.i
