@@ -1,5 +1,5 @@
 -- The holes by size: sorting keeps the bits of all and those of the long ones, the lengths do not rise, and the first one is the first of the longest.
-use mathlib.Core.Path.{◌≡◌, refl, ap, ◌∙◌}
+use mathlib.Core.Path.{◌≡◌, refl, sym, ap, ◌∙◌, subst}
 use mathlib.Core.Bool.{Bool, true, false, false≢true}
 use mathlib.Core.List.{List, [], ◌∷◌, ◌++◌}
 use Prim.Native.Nat.{ℕ, suc, ◌+◌, ◌<◌, ◌≤◌}
@@ -119,10 +119,12 @@ none_beyond [] h = simp (lt-leb (suc h.len) h.len (omega arith))
 none_beyond (x ∷ xs) h =
     by_test (ltb h.len x.len)
     (λ t. let n = suc (first_longest x xs).len in
-    simp t (simp (lt-leb n h.len (omega (arith, ltb-true h.len x.len t, len_le xs x))) (none_beyond xs x)))
+    let e : first_longest h (x ∷ xs) ≡ first_longest x xs = simp t in
+    subst (λ (y : Pair). at_least (suc y.len) (h ∷ x ∷ xs) ≡ 0) (sym e) (simp (lt-leb n h.len (omega (arith, ltb-true h.len x.len t, len_le xs x))) (none_beyond xs x)))
     (λ t. let n = suc (first_longest h xs).len in
     let e : at_least n (h ∷ xs) ≡ 0 = none_beyond xs h in
-    simp t (omega (arith, count_one n h (x ∷ xs), count_one n x xs, count_one n h xs, e, short n x (omega (arith, ltb-false h.len x.len t, len_le xs h)))))
+    let same : first_longest h (x ∷ xs) ≡ first_longest h xs = simp t in
+    subst (λ (y : Pair). at_least (suc y.len) (h ∷ x ∷ xs) ≡ 0) (sym same) (omega (arith, count_one n h (x ∷ xs), count_one n x xs, count_one n h xs, e, short n x (omega (arith, ltb-false h.len x.len t, len_le xs h)))))
   where
     short : (n : ℕ) (x : Pair) → x.len < n → counted n x ≡ 0
     short n x k = simp (lt-leb n x.len k)

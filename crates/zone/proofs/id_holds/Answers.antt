@@ -1,0 +1,6 @@
+-- A free fragment has no owner; any other's is tested.
+use borrow.Author.Rules.{rules}
+use Rattle.zone.proofs.id_holds.Goals as goal
+
+pub returns : goal.returns
+returns c = simp c.if-free.false c.is_id.ensures
