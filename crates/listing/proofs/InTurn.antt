@@ -42,6 +42,7 @@ kept_apart t at end (p ∷ ps) k =
     (λ u. rw u (apart_from at (p.at.start + p.at.len) end (places (keep t ps)) (omega (arith, k.0)) r))
 
 kept_passes : (t : Pair → Bool) {q : Pair} {i : ℕ} (ps : List Piece) → At q i (places (keep (λ p. t p.at) ps)) → t q ≡ true
+kept_passes t [] v = elim v [ ]
 kept_passes t (p ∷ ps) v = go (keep (λ x. t x.at) ps) (t p.at) refl v (λ k w. kept_passes t ps w)
   where
     go : (r : List Piece) (b : Bool) {q : Pair} {i : ℕ} → t p.at ≡ b → At q i (places (cond b (p ∷ r) r)) → ((k : ℕ) → At q k (places r) → t q ≡ true) → t q ≡ true
