@@ -13,9 +13,6 @@ use borrow.Author.Rules.{rules}
 use Rattle.listing.proofs.count_held.Goals as goal
 use Rattle.listing.proofs.count_held.Goals.{After-same-n}
 
-pub loop-w-preserved : goal.loop-w-preserved
-loop-w-preserved c = (c.next-s.ensures.stands, counted (goal.at.loop-w-preserved c).After-same-n)
-
 pub loop-w-init : goal.loop-w-init
 loop-w-init c =
     let a = c.args in
@@ -40,3 +37,6 @@ pub returns : goal.returns
 returns c =
     let a = c.args in
     omega (arith, c.loop-w.invariant.1, ap length (held_none a.holder a.map.now a.g a.g.zones c.loop-w.w c.loop-w-test.false))
+
+pub loop-w-preserved : goal.loop-w-preserved
+loop-w-preserved c = (c.next-s.ensures.stands, counted (goal.at.loop-w-preserved c).After-same-n)

@@ -4,21 +4,18 @@ use Rattle.map.specs.Accepted.{AcceptedMap}
 use Rattle.listing.proofs.Answers.{accepted_by, check_refuses, few_for_free, free_fits, free_listed}
 use borrow.Author.Rules.{rules}
 use Rattle.listing.proofs.free.Goals as goal
-use Rattle.listing.proofs.free.Goals.{In-Accepted-2}
+use Rattle.listing.proofs.free.Goals.{In-Accepted}
 
-pub count_held-spans-requires : goal.count_held-spans-requires
-count_held-spans-requires c = accepted (goal.at.count_held-spans-requires c).In-Accepted-2
-
-accepted : (c : In-Accepted-2) → AcceptedMap c.args.map.now c.in-Accepted.g
+accepted : (c : In-Accepted) → AcceptedMap c.args.map.now c.in-Accepted.g
 accepted c = accepted_by c.check.ensures.answer c.in-Accepted.is
 
 pub returns-then-pairs-spans : goal.returns-then-pairs-spans
 returns-then-pairs-spans c =
-    few_for_free (accepted (goal.at.returns-then-pairs-spans c).In-Accepted-2) c.args.pairs.now c.count_held-spans.ensures c.if-pairs-spans.true c.refuse.ensures
+    few_for_free (accepted (goal.at.returns-then-pairs-spans c).In-Accepted) c.args.pairs.now c.count_held-spans.ensures c.if-pairs-spans.true c.refuse.ensures
 
 pub write_held-requires : goal.write_held-requires
 write_held-requires c =
-    (accepted (goal.at.write_held-requires c).In-Accepted-2, omega arith, omega arith, free_fits (accepted (goal.at.write_held-requires c).In-Accepted-2) c.args.pairs.now c.count_held-spans.ensures c.if-pairs-spans.false)
+    (accepted (goal.at.write_held-requires c).In-Accepted, omega arith, omega arith, free_fits (accepted (goal.at.write_held-requires c).In-Accepted) c.args.pairs.now c.count_held-spans.ensures c.if-pairs-spans.false)
 
 pub returns-in-Refused : goal.returns-in-Refused
 returns-in-Refused c =
@@ -27,4 +24,7 @@ returns-in-Refused c =
 
 pub returns-else-pairs-spans : goal.returns-else-pairs-spans
 returns-else-pairs-spans c =
-    free_listed (accepted (goal.at.returns-else-pairs-spans c).In-Accepted-2) c.args.pairs.now c.count_held-spans.ensures c.if-pairs-spans.false c.write_held.ensures.list
+    free_listed (accepted (goal.at.returns-else-pairs-spans c).In-Accepted) c.args.pairs.now c.count_held-spans.ensures c.if-pairs-spans.false c.write_held.ensures.list
+
+pub count_held-spans-requires : goal.count_held-spans-requires
+count_held-spans-requires c = accepted c

@@ -3,10 +3,10 @@ use Rattle.listing.proofs.Answers.{accepted_by, check_refuses}
 use borrow.Author.Rules.{rules}
 use Rattle.listing.proofs.list.Goals as goal
 
-pub list_object-requires : goal.list_object-requires
-list_object-requires c = accepted_by c.check.ensures.answer c.in-Accepted.is
-
 pub returns-in-Refused : goal.returns-in-Refused
 returns-in-Refused c =
     let a = c.args in
     check_refuses a.map.now a.pairs.now _ c.check.ensures.answer c.in-Refused.is
+
+pub list_object-requires : goal.list_object-requires
+list_object-requires c = accepted_by c.check.ensures.answer c.in-Accepted.is

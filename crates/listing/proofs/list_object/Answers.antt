@@ -24,7 +24,7 @@ write_held-at-requires c =
 
 pub write_held-requires : goal.write_held-requires
 write_held-requires c =
-    (c.requires, omega arith, start_inside (object (goal.at.write_held-requires c).After-count_held-n), early_fits (object (goal.at.write_held-requires c).After-count_held-n) c.args.pairs.now c.if-n-eq0.false c.if-pairs-n.false c.write_held-at.new.pairs c.write_held-at.auto.pairs.1.1.1.1.1.0 c.write_held-at.ensures.next)
+    (c.requires, omega arith, start_inside (object (goal.at.write_held-requires c).After-count_held-n), early_fits (object (goal.at.write_held-requires c).After-count_held-n) c.args.pairs.now c.if-n-eq0.false c.if-pairs-n.false c.write_held-at.new.pairs c.write_held-at.auto.pairs c.write_held-at.ensures.next)
 
 pub returns-in-Refused : goal.returns-in-Refused
 returns-in-Refused c =

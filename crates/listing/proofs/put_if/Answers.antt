@@ -16,7 +16,7 @@ bounds-pairs-at-then-wanted c =
     simp length-set (omega (arith, wanted_room a.wanted a.at (length a.pairs.now) c.if-wanted.true c.requires))
 
 pub returns-then-wanted : goal.returns-then-wanted
-returns-then-wanted c = let a = c.args in wanted_stored a.wanted a.pairs.now a.at a.start.0 a.len c.if-wanted.true
+returns-then-wanted c = let a = c.args in let answer = wanted_stored a.wanted a.pairs.now a.at a.start.0 a.len c.if-wanted.true in record { list = answer.0; next = answer.1 }
 
 pub returns : goal.returns
-returns c = let a = c.args in unwanted_stored a.wanted a.pairs.now a.at a.start.0 a.len c.if-wanted.false
+returns c = let a = c.args in let answer = unwanted_stored a.wanted a.pairs.now a.at a.start.0 a.len c.if-wanted.false in record { list = answer.0; next = answer.1 }

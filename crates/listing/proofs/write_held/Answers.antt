@@ -13,9 +13,6 @@ use native.Mathlib.Omega.{arith}
 use borrow.Author.Rules.{rules}
 use Rattle.listing.proofs.write_held.Goals as goal
 
-pub from_zone-w-requires : goal.from_zone-w-requires
-from_zone-w-requires c = reads_from c.requires.0 _
-
 pub loop-w-init : goal.loop-w-init
 loop-w-init c =
     let a = c.args in
@@ -39,5 +36,7 @@ loop-w-preserved c =
 
 pub returns : goal.returns
 returns c =
-    let a = c.args in
-    stored_ends c.loop-w.invariant.1 (held_none a.holder a.map.now a.g a.to c.loop-w.w c.loop-w-test.false)
+    let a = c.args in let answer = stored_ends c.loop-w.invariant.1 (held_none a.holder a.map.now a.g a.to c.loop-w.w c.loop-w-test.false) in record { list = answer.0; next = answer.1 }
+
+pub from_zone-w-requires : goal.from_zone-w-requires
+from_zone-w-requires c = reads_from c.requires.0 _
