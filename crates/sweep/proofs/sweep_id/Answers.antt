@@ -1,0 +1,20 @@
+-- The answers of `SweepAnswers` for an object: 8, 10, and the holder's sweep.
+use mathlib.Core.Path.{sym, ◌∙◌}
+use borrow.Author.Tests.{not-true, not-false}
+use Rattle.sweep.proofs.SweepAnswers.{no_id, no_object, object_swept}
+use borrow.Author.Rules.{rules}
+use Rattle.sweep.proofs.sweep_id.Goals as goal
+
+pub returns-then-not-is_id : goal.returns-then-not-is_id
+returns-then-not-is_id c =
+    no_id c.requires c.args.id c.args.first c.args.fill c.args.image.now (sym c.is_id.ensures ∙ c.if-not-is_id.true) c.refuse.ensures
+
+pub returns-then-count_held-eq0 : goal.returns-then-count_held-eq0
+returns-then-count_held-eq0 c =
+    no_object c.requires c.args.id c.args.first c.args.fill c.args.image.now (sym c.is_id.ensures ∙ c.if-not-is_id.false)
+    c.count_held.ensures c.if-count_held-eq0.true c.refuse-then-count_held-eq0.ensures
+
+pub returns : goal.returns
+returns c =
+    object_swept c.requires c.args.id c.args.first c.args.fill c.args.image.now (sym c.is_id.ensures ∙ c.if-not-is_id.false)
+    c.count_held.ensures c.if-count_held-eq0.false c.sweep_class.ensures
