@@ -13,6 +13,7 @@ use Rattle.holes.specs.Passes.{holes_on}
 use Rattle.holes.proofs.HoleBits.{all_ahead, total_small, at_least_some, long_enough, too_short}
 use borrow.Author.Rules.{rules}
 use Rattle.holes.proofs.bits_from.Goals as goal
+use Rattle.holes.proofs.bits_from.Goals.{then-t-len, else-t-len}
 
 pub loop-w-init : goal.loop-w-init
 loop-w-init c = (c.from_zone-w.ensures.stands, omega (arith, ap (at_least c.args.t) (all_ahead c.from_zone-w.ensures)))
@@ -36,10 +37,10 @@ loop-w-preserved c =
     let t = c.args.t in
     let passed = c.next-s.ensures.passed in (
       c.next-s.ensures.stands,
-      ⊎_elim
-          (λ w. omega (arith, w.1, c.loop-w.invariant.1, long_enough t passed w.0.taken))
-          (λ w. omega (arith, w.1, c.loop-w.invariant.1, too_short t passed w.0.left))
-          c.if-t-len.branch,
+      elim c.if-t-len.branch [
+        then-t-len w ↦ omega (arith, c.loop-w.invariant.1, long_enough t passed w.if-t-len.true)
+        | else-t-len w ↦ omega (arith, c.loop-w.invariant.1, too_short t passed w.if-t-len.false)
+      ],
     )
 
 pub returns : goal.returns

@@ -15,6 +15,7 @@ use Rattle.holes.specs.Passes.{holes_on}
 use Rattle.holes.proofs.HoleBits.{all_ahead, total_small, longer_later, longer_first, longest_turn}
 use borrow.Author.Rules.{rules}
 use Rattle.holes.proofs.survey.Goals as goal
+use Rattle.holes.proofs.survey.Goals.{then-len-s, else-len-s}
 
 pub loop-w-init : goal.loop-w-init
 loop-w-init c =
@@ -36,10 +37,10 @@ loop-w-preserved c =
       c.next-s.ensures.stands,
       omega (arith, c.loop-w.invariant.1, ap total passed),
       longest_turn best passed c.loop-w.invariant.2
-          (⊎_elim
-          (λ w. (λ i. pair (w.2 i).0 (w.3 i)) ∙ sym (longer_later best hole w.0.taken))
-          (λ w. (λ i. pair (w.1 i).0 (w.2 i)) ∙ sym (longer_first best hole w.0.left))
-          c.if-len-s.branch),
+          (elim c.if-len-s.branch [
+            then-len-s w ↦ (λ i. pair (w.start-is i).0 (w.len-is i)) ∙ sym (longer_later best hole w.if-len-s.true)
+            | else-len-s w ↦ (λ i. pair (w.start-is i).0 (w.len-is i)) ∙ sym (longer_first best hole w.if-len-s.false)
+          ]),
     )
 
 pub returns : goal.returns
