@@ -62,7 +62,7 @@ apart_keep m a at end t (p ∷ ps) w g h =
     let b = both (gap_fits m at p.at.start) (apart m (p.at.start + p.at.len) end ps) h in
     let g2 = gap_join m a at p.at.start g (gap_of_test m at p.at.start b.0) in
     by_test (t p)
-    (λ k. simp k (and_true (gap_fits m a p.at.start) _ (test_of_gap m a p.at.start g2) (apart_keep m _ _ end t ps w.1 (inl refl) b.1)))
+    (λ k. simp k (and_true (gap_fits m a p.at.start) _ (test_of_gap m a p.at.start g2) (apart_keep m (p.at.start + p.at.len) (p.at.start + p.at.len) end t ps w.1 (inl refl) b.1)))
     (λ k. simp k (apart_keep m a (p.at.start + p.at.len) end t ps w.1 (gap_over m a p.at.start p.at.len (gap_le m a p.at.start g2) (leb-true m p.at.len w.0)) b.1))
 
 -- pieces that lie apart ascend

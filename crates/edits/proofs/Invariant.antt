@@ -139,7 +139,7 @@ list_long g id from [] h = tt
 list_long g id from (q ∷ qs) h =
     let a = both _ _ h in
     let b = both _ _ a.0 in
-    ((pair_tested g q b.0).long, list_long g id _ qs a.1)
+    ((pair_tested g q b.0).long, list_long g id (rank (late g id) (disc_bits g) (own id q) + q.len) qs a.1)
 
 pub list_zoned : (g : Geometry) (id from : ℕ) (qs : List Pair) → AcceptedGeometry g → pairs_fit g id from qs ≡ true → All (λ p. ltb (zone_of g p.at.start) g.zones) (map (own id) qs)
 list_zoned g id from [] f h = tt
@@ -147,7 +147,7 @@ list_zoned g id from (q ∷ qs) f h =
     let a = both _ _ h in
     let b = both _ _ a.0 in
     let k = pair_tested g q b.0 in
-    (lt-ltb _ _ (on_disc g q.start f (omega arith)), list_zoned g id _ qs f a.1)
+    (lt-ltb _ _ (on_disc g q.start f (omega arith)), list_zoned g id (rank (late g id) (disc_bits g) (own id q) + q.len) qs f a.1)
 
 pub all_named : (g : Geometry) (id : ℕ) (qs : List Pair) → ltb id (g.ids * g.zones) ≡ true → All (λ p. ltb p.owner (g.ids * g.zones)) (map (own id) qs)
 all_named g id [] h = tt

@@ -44,7 +44,7 @@ one_keep d a at end t (p ∷ ps) f c h =
     (λ k. simp k
     (and_true (gap_ends_by d a p.at.start && (eqb p.owner 1 || leb (p.at.start + p.at.len) d)) _
     (and_true (gap_ends_by d a p.at.start) _ (ends_join d a at p.at.start c e.0) e.1)
-    (one_keep d _ _ end t ps f (inl refl) b.1)))
+    (one_keep d (p.at.start + p.at.len) (p.at.start + p.at.len) end t ps f (inl refl) b.1)))
     (λ k. simp k (one_keep d a (p.at.start + p.at.len) end t ps f (inr (leb-true (p.at.start + p.at.len) d (simp (f p k) at e.1))) b.1))
 
 pub ends_before : (d at end : ℕ) → at < end → gap_ends_by d at end ≡ true → end ≤ d
