@@ -1,0 +1,15 @@
+-- The zone is drawn from `to` on (`PiecesDrawn`). The measure is the lines left.
+use Prim.Native.Nat.{ℕ, ◌≤◌}
+use mathlib.Core.Path.{◌≡◌, refl, ◌∙◌, subst⁻¹}
+use native.Mathlib.Omega.{arith}
+use lib.ListN.{length}
+use Rattle.bits.specs.Bits.{byte_bits}
+use Rattle.writer.proofs.PiecesDrawn.{DrawnFrom, same_size, reaches, draw_starts, last_gap, last_asks, piece_fits, gap_fits, fragment_fits, draw_turn}
+use borrow.Author.Rules.{rules}
+use Rattle.writer.proofs.draw_pieces.Given as goal
+
+abbrev pub invariant-loop-i : goal.invariant-loop-i
+invariant-loop-i l = (length l.block ≡ length l.initial.block) × (l.i ≤ l.n) × DrawnFrom l.g l.z l.pieces l.n (byte_bits l.initial.block) (byte_bits l.block) l.i l.to.0 l.next.0
+
+abbrev pub decreases-loop-i : goal.decreases-loop-i
+decreases-loop-i l = l.i
