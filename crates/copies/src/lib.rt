@@ -101,7 +101,7 @@ pub fn copy_over(source: &[u8], target: &mut [u8]) -> Copied
             if target.len() != source.len() {
                 return Copied::Refused(refuse(1));
             }
-            bytes::copy(source, target);
+            target.copy_from_slice(source);
             Copied::Done
         }
     }

@@ -141,7 +141,7 @@ fn mended_block(map: &[u8], g: Geometry, z: usize, change: u8, pieces: &mut [u32
 {
     let a = z * g.sector;
     let e = a + g.sector;
-    bytes::copy(&map[a..e], block);
+    block.copy_from_slice(&map[a..e]);
     let n = writer::staying(map, g, z, 0, pieces);
     writer::draw_zone(block, z, g, pieces, n, change);
 }
