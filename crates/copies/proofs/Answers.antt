@@ -87,10 +87,9 @@ module _ (source target : List ℕ) {c : Checked} (e : c ≡ checked source) whe
         copies_over source target target (copied.Refused r) (refused 1 0) (by_length ∙ rw (ne_eqb (length target) (length source) n))
         (ap copied.Refused er) (ap (λ (x : Refusal). (x.number, x.zone)) er) refl
 
-    pub copy_done : (after : List ℕ) → length target ≡ length source → after ≡ take (length source) source ++ drop (length source) target → CopiesOver source target copied.Done after
+    pub copy_done : (after : List ℕ) → length target ≡ length source → after ≡ source → CopiesOver source target copied.Done after
     copy_done after l ea =
-        copies_over source target after copied.Done (answered source) (by_length ∙ rw (eq-eqb (length target) (length source) l)) refl refl
-        (ea ∙ written_all (length source) source target (omega arith) (omega arith))
+        copies_over source target after copied.Done (answered source) (by_length ∙ rw (eq-eqb (length target) (length source) l)) refl refl ea
 
 -- where the copies lie
 tells_addresses : (m : List ℕ) (r : Located) (f : Answer Addresses) → addresses_found m ≡ f → r ≡ addresses_answer f → addresses_numbers r ≡ addresses_told f

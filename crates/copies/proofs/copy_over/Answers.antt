@@ -16,5 +16,5 @@ returns-in-Refused c =
 pub returns-else-target-source : goal.returns-else-target-source
 returns-else-target-source c =
     let a = c.args in
-    copy_done a.source.now a.target.now c.check.ensures.answer c.in-Accepted.is c.copy.new.1.0 c.if-target-source.false
-    c.copy_from_slice.ensures.after.1
+    copy_done a.source.now a.target.now c.check.ensures.answer c.in-Accepted.is c.copy_from_slice.new.self c.if-target-source.false
+    c.copy_from_slice.ensures.after

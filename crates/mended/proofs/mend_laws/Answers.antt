@@ -3,10 +3,9 @@ use Rattle.mended.proofs.InOrder.{refused_stays, stays, twice, only_in_order, li
 use Rattle.mended.proofs.Judged.{mend_judged, positions_judged, as_checked}
 use Rattle.mended.proofs.MapMended.{mends}
 use Rattle.mended.proofs.Positions.{positions_listed, positions_ascend, positions_exact}
-use Rattle.mended.proofs.mend_laws.Statement.{statement}
-use Rattle.mended.proofs.mend_laws.Tie as tie
+use Rattle.mended.proofs.mend_laws.Goals as goal
 
-returns : tie.Need-returns
+pub returns : goal.returns
 returns c =
     record {
       mend_judged = mend_judged;
@@ -23,6 +22,3 @@ returns c =
       positions_ascend = positions_ascend;
       positions_exact = positions_exact;
     }
-
-pub mend-laws-spec : {M : Type 1} → statement M
-mend-laws-spec = tie.close (tie.spec returns)

@@ -1,0 +1,9 @@
+-- The sum of the cross checks, exclusive-ored with 255.
+use mathlib.Core.Path.{ap}
+use Prim.Native.Nat.{ℕ}
+use lib.Bits.{bit_xor}
+use borrow.Author.Rules.{rules}
+use Rattle.mend.proofs.cross_lack.Goals as goal
+
+pub returns : goal.returns
+returns c = ap (λ (x : ℕ). bit_xor x 255) c.cross_checks.ensures
