@@ -1,5 +1,5 @@
 # make            proves map_lines and lists the fragments of a map with it (MAP=file; map A by default)
-# make test       the gate: layout, the names in the documents, then every proof, every must-fail edit and every program
+# make test       the gate: the names in the documents, then layout, every proof, every must-fail edit and every program
 # make library    the static library for C and Rust
 # make compare    many generated maps through the library, map_lines and the second program (SEEDS=n for more),
 #                 and that the stored cases are current
@@ -19,21 +19,20 @@ DISC ?= target/disc
 .PHONY: all test library compare memcheck bench figures stack rust c-example disc cases
 
 all:
-	rt check map_lines
-	target/bin/map_lines < $(MAP)
+	cd crates/map_lines && rt run < $(abspath $(MAP))
 
 test:
-	rt fmt --check
-	docs/names.sh
-	rt ci
+	.ci/run
 
 library:
-	rt staticlib shoalswift
+	cd crates/shoalswift_c && rt lib
+	mkdir -p target/staticlib
+	cp crates/shoalswift_c/out/libshoalswift_c.a target/staticlib/libshoalswift.a
 
 compare: library
-	rt check map_lines
+	cd crates/map_lines && rt run < stdin > /dev/null
 	cd second && cargo build --release --offline -p reference -p compare
-	SEEDS=$(SEEDS) MAP_LINES=target/bin/map_lines second/target/release/compare
+	SEEDS=$(SEEDS) MAP_LINES=crates/map_lines/out/map_lines second/target/release/compare
 	mkdir -p second/target/cases second/target/texts
 	second/target/release/cases second/target/cases
 	cmp second/target/cases/stdin crates/vectors/stdin

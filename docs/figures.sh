@@ -3,7 +3,7 @@
 #   docs/figures.sh              measures all of it: gate, compare, bench, stack (half an hour; nothing else should run meanwhile)
 #   docs/figures.sh STEP ..      measures these steps anew; what the other steps printed last is used again
 #   docs/figures.sh page         measures nothing
-# What a step printed is kept in second/target/figures: the gate removes target/.
+# What a step printed is kept in second/target/figures.
 set -eu
 cd "$(dirname "$0")/.."
 logs=second/target/figures
@@ -36,20 +36,15 @@ lines() {
     cat "$@" 2>/dev/null | wc -l
 }
 
-# gate_seconds CRATE: what the gate's check of the crate took
-gate_seconds() {
-    sed -n "s/^rt: $1 proved (\([0-9]*\) s)\$/\1/p" "$logs/gate" | head -n 1
-}
-
 sizes() {
-    echo "| crate | code | definitions | proofs | must-fail edits | seconds |"
-    echo "|---|---:|---:|---:|---:|---:|"
-    sed -n 's/^\([a-z_0-9]*\):.*/\1/p' crates.txt | while read -r crate; do
+    echo "| crate | code | definitions | proofs | must-fail edits |"
+    echo "|---|---:|---:|---:|---:|"
+    sed -n 's/^\([a-z_0-9]*\)\( [^:]*\)\{0,1\}:.*/\1/p' crates.txt | while read -r crate; do
         at=crates/$crate
         edits=$(find "$at" -name '*.edit' | wc -l)
-        echo "$crate $(lines "$at"/src/*.rt) $(lines "$at"/specs/*.antt) $(find "$at/proofs" -name '*.antt' -exec cat {} + 2>/dev/null | wc -l) $edits $(gate_seconds "$crate")"
-    done | awk '{ code += $2; specs += $3; proofs += $4; edits += $5; printf "| `%s` | %d | %d | %d | %d | %s |\n", $1, $2, $3, $4, $5, $6 }
-        END { printf "| all | %d | %d | %d | %d | |\n", code, specs, proofs, edits }'
+        echo "$crate $(lines "$at"/src/*.rt) $(lines "$at"/specs/*.antt) $(find "$at/proofs" -name '*.antt' -exec cat {} + 2>/dev/null | wc -l) $edits"
+    done | awk '{ code += $2; specs += $3; proofs += $4; edits += $5; printf "| `%s` | %d | %d | %d | %d |\n", $1, $2, $3, $4, $5 }
+        END { printf "| all | %d | %d | %d | %d |\n", code, specs, proofs, edits }'
 }
 
 totals() {
@@ -69,10 +64,9 @@ page() {
 
 Written by `make figures` (docs/figures.sh); none is typed by hand.
 
-## Sizes and check times
+## Sizes
 
-Lines of code (`src`, contracts included), of definitions (`specs`) and of proofs, must-fail edits, and the seconds that the gate's
-check of the crate took, from nothing, two crates at a time on a machine with two cores.
+Lines of code (`src`, contracts included), of definitions (`specs`) and of proofs, and must-fail edits.
 
 TEXT
     sizes
@@ -86,7 +80,7 @@ TEXT
 nothing else. The same maps and arguments, release builds, all answers compared before they are timed. The second program is plain Rust
 that walks a map once and keeps lists; the library keeps nothing but the pieces of the zone that it edits.
 TEXT
-    echo "The library is compiled by \`rt staticlib\` of $(rt version), the others by the compiler named below."
+    echo "The library is compiled by \`rt lib\` of $(rt version), the others by the compiler named below."
     echo
     cat "$logs/bench"
     cat <<'TEXT'

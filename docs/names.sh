@@ -33,7 +33,7 @@ is_there() {
     */*)
         crate=${1%%/*}
         rest=${1#*/}
-        grep -q "^$crate:" crates.txt || return 0
+        grep -qE "^$crate( [^:]*)?:" crates.txt || return 0
         case $rest in
         [A-Z]*)
             file=crates/$crate/specs/${rest%%.*}.antt

@@ -1,9 +1,5 @@
 -- The loop that writes the parts: the bytes written so far, with what is left, are the program's text; so when nothing is left, they are it.
-use mathlib.Core.Path.{◌≡◌, sym, ap, ◌∙◌}
-use mathlib.Core.List.{List, [], ◌++◌, append_assoc, append-nil}
-use Prim.Native.Nat.{ℕ, ◌<◌, ◌≤◌}
-use native.Mathlib.Omega.{arith}
-use lib.ListN.{length, take, length-append, length-take}
+use Rattle.std.proofs.Common.{◌≡◌, ℕ, ◌<◌, ◌≤◌, List, [], ◌++◌, arith, length, take, sym, ap, ◌∙◌, append_assoc, append-nil, length-append, length-take}
 use Rattle.map_text.specs.declared.Left.{Left}
 use Rattle.map_text.specs.declared.TextPart.{TextPart}
 use Rattle.map_text.specs.Text.{program_text}

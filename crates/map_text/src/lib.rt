@@ -1,6 +1,8 @@
 // The text that program `map_lines` prints of a map: a line for each fragment, or the refusal (document 01, "What the station
 // handles"). The text of a large map is long, and there is no heap: it is made part after part in a lent buffer. What is left of it
 // (`Left`) is a value, and each part's contract says that the part is the next stretch of the text.
+#![tactic(auto)]
+
 ghost use Rattle.std.specs.Prelude.{◌≡◌, [], ◌∷◌, ◌++◌, ◌+◌, ◌<◌, ◌≤◌, length};
 ghost use Rattle.walk.specs.Remaining.{Stands};
 ghost use Rattle.map_text.specs.declared.Left.TheVariants as left;
@@ -11,8 +13,8 @@ ghost use Rattle.map_text.specs.Parts.{Puts, Ready, Begins, IsNextPart};
 ghost use Rattle.map_text.specs.Laws.{TextLaws};
 
 use geometry::{DiscBit, Geometry, Refusal, refuse};
-use libc::STDOUT_FILENO;
 use map::Checked;
+use std::io;
 use walk::Walk;
 
 // What is left to print: the lines of an accepted map from a fragment on, a refusal, or nothing.
@@ -32,16 +34,16 @@ pub struct TextPart {
 
 // Prints the text of the map that is the first n bytes of a buffer. The buffer has to have room for more than the longest map, since
 // only then does it show that a map is longer.
-pub fn print(buffer: &[u8], n: usize)
+pub fn print(rt: &impl Print, buffer: &[u8], n: usize) -> io::Result<()>
     requires { (65536 < length buffer.now) × (n ≤ length buffer.now) }
 {
     let mut text = [0u8; 4096];
-    print_parts(&buffer[..n], &mut text);
+    print_parts(rt, &buffer[..n], &mut text)
 }
 
 // Part after part, until nothing is left. No contract can speak of what is written, so this one says nothing; the loop's invariant
 // keeps the parts handed over so far, which with what is left are the text.
-fn print_parts(input: &[u8], text: &mut [u8])
+fn print_parts(rt: &impl Print, input: &[u8], text: &mut [u8]) -> io::Result<()>
     requires { 33 ≤ length text.old }
 {
     let mut left = begin(input);
@@ -49,9 +51,9 @@ fn print_parts(input: &[u8], text: &mut [u8])
         let part = next_part(input, left, text);
         let n = part.len;
         if n == 0 {
-            return;
+            return Ok(());
         }
-        io::write_all(STDOUT_FILENO, &text[..n]);
+        rt.write_all(&text[..n])?;
         left = part.left;
     }
 }

@@ -1,7 +1,9 @@
-// The library for C and Rust: every call as an exported function. A slice is a pointer and a length, a reference to a number a pointer.
-// Each answers the refusal number (0: accepted); `zone` is always written, the zone told or 0, and so is every other number lent, 0
-// where the call is refused, but for `equal`, which is told of refused copies too. Each has the full contract of the call that it
-// forwards to.
+// The library with every call as a function of plain numbers and slices: crate `shoalswift_c` exports each for C and Rust, with the same
+// clauses. Each answers the refusal number (0: accepted); `zone` is always written, the zone told or 0, and so is every other number
+// lent, 0 where the call is refused, but for `equal`, which is told of refused copies too. Each has the full contract of the call that
+// it forwards to.
+#![tactic(auto)]
+
 ghost use Rattle.std.specs.Prelude.{◌≡◌};
 ghost use Rattle.model.specs.Check.{map_read};
 ghost use Rattle.map.specs.Checked.{checked, check_told};
@@ -25,8 +27,7 @@ use place::Placed;
 use sweep::Swept;
 
 // Checks a map.
-#[unsafe(no_mangle)]
-pub extern "C" fn shoalswift_check(map: &[u8], zone: &mut u32) -> u32
+pub fn shoalswift_check(map: &[u8], zone: &mut u32) -> u32
     ensures { (result, zone.new) ≡ check_told (map_read map.now) }
 {
     match map::check(map) {
@@ -42,8 +43,7 @@ pub extern "C" fn shoalswift_check(map: &[u8], zone: &mut u32) -> u32
 }
 
 // The geometry of an accepted map: S, B, nzones, P (the ids per zone) and disc_size, so that no caller has to read the record.
-#[unsafe(no_mangle)]
-pub extern "C" fn shoalswift_geometry(
+pub fn shoalswift_geometry(
     map: &[u8],
     sector: &mut u32,
     unit: &mut u32,
@@ -78,8 +78,7 @@ pub extern "C" fn shoalswift_geometry(
 }
 
 // Lists an object's pieces in object order.
-#[unsafe(no_mangle)]
-pub extern "C" fn shoalswift_list(
+pub fn shoalswift_list(
     map: &[u8],
     id: u32,
     list: &mut [u32],
@@ -93,13 +92,7 @@ pub extern "C" fn shoalswift_list(
 }
 
 // Lists the free spans, ascending.
-#[unsafe(no_mangle)]
-pub extern "C" fn shoalswift_free(
-    map: &[u8],
-    list: &mut [u32],
-    pairs: &mut u64,
-    zone: &mut u32,
-) -> u32
+pub fn shoalswift_free(map: &[u8], list: &mut [u32], pairs: &mut u64, zone: &mut u32) -> u32
     ensures { ListTold (free_found map.now) list.old (result, zone.new, pairs.new) list.new }
 {
     let r = listing::free(map, list);
@@ -107,8 +100,7 @@ pub extern "C" fn shoalswift_free(
 }
 
 // Where a byte of a file lies, and how many bytes there are from it to its piece's end.
-#[unsafe(no_mangle)]
-pub extern "C" fn shoalswift_address(
+pub fn shoalswift_address(
     map: &[u8],
     n: u32,
     position: u64,
@@ -135,8 +127,7 @@ pub extern "C" fn shoalswift_address(
 }
 
 // Sweeps an ordinary object within a stretch of image.
-#[unsafe(no_mangle)]
-pub extern "C" fn shoalswift_sweep_object(
+pub fn shoalswift_sweep_object(
     map: &[u8],
     image: &mut [u8],
     first: u64,
@@ -153,8 +144,7 @@ pub extern "C" fn shoalswift_sweep_object(
 }
 
 // Sweeps free space within a stretch of image.
-#[unsafe(no_mangle)]
-pub extern "C" fn shoalswift_sweep_free(
+pub fn shoalswift_sweep_free(
     map: &[u8],
     image: &mut [u8],
     first: u64,
@@ -169,8 +159,7 @@ pub extern "C" fn shoalswift_sweep_free(
 }
 
 // Releases an ordinary object and returns its pairs in object order.
-#[unsafe(no_mangle)]
-pub extern "C" fn shoalswift_release(
+pub fn shoalswift_release(
     map: &mut [u8],
     id: u32,
     list: &mut [u32],
@@ -184,8 +173,7 @@ pub extern "C" fn shoalswift_release(
 }
 
 // Places a list of pieces under an absent id.
-#[unsafe(no_mangle)]
-pub extern "C" fn shoalswift_place(map: &mut [u8], id: u32, list: &[u32], zone: &mut u32) -> u32
+pub fn shoalswift_place(map: &mut [u8], id: u32, list: &[u32], zone: &mut u32) -> u32
     ensures { PlaceTold map.old id list.now (result, zone.new) map.new }
 {
     match place::place(map, id, list) {
@@ -201,8 +189,7 @@ pub extern "C" fn shoalswift_place(map: &mut [u8], id: u32, list: &[u32], zone: 
 }
 
 // Claims room for so many bytes near a parent zone and returns the pairs in object order.
-#[unsafe(no_mangle)]
-pub extern "C" fn shoalswift_claim(
+pub fn shoalswift_claim(
     map: &mut [u8],
     size: u64,
     parent: u32,
@@ -230,8 +217,7 @@ pub extern "C" fn shoalswift_claim(
 }
 
 // Which of two copies is an accepted map, and whether they are equal. The part that `copies::choose` hands back is the copy told.
-#[unsafe(no_mangle)]
-pub extern "C" fn shoalswift_choose_copy<'a>(
+pub fn shoalswift_choose_copy<'a>(
     first: &'a [u8],
     second: &'a [u8],
     which: &mut u32,
@@ -247,8 +233,7 @@ pub extern "C" fn shoalswift_choose_copy<'a>(
 }
 
 // Writes an accepted map over another copy.
-#[unsafe(no_mangle)]
-pub extern "C" fn shoalswift_copy_over(source: &[u8], target: &mut [u8], zone: &mut u32) -> u32
+pub fn shoalswift_copy_over(source: &[u8], target: &mut [u8], zone: &mut u32) -> u32
     ensures { CopyTold source.now target.old (result, zone.new) target.new }
 {
     match copies::copy_over(source, target) {
@@ -264,8 +249,7 @@ pub extern "C" fn shoalswift_copy_over(source: &[u8], target: &mut [u8], zone: &
 }
 
 // The disc addresses of an accepted map's two copies.
-#[unsafe(no_mangle)]
-pub extern "C" fn shoalswift_copy_addresses(
+pub fn shoalswift_copy_addresses(
     map: &[u8],
     first: &mut u64,
     second: &mut u64,
@@ -290,8 +274,7 @@ pub extern "C" fn shoalswift_copy_addresses(
 }
 
 // Mends a map.
-#[unsafe(no_mangle)]
-pub extern "C" fn shoalswift_mend(map: &mut [u8], zone: &mut u32) -> u32
+pub fn shoalswift_mend(map: &mut [u8], zone: &mut u32) -> u32
     ensures { MendTold map.old (result, zone.new) map.new }
 {
     match mend::mend(map) {
@@ -307,8 +290,7 @@ pub extern "C" fn shoalswift_mend(map: &mut [u8], zone: &mut u32) -> u32
 }
 
 // The positions of the bytes that mending would change.
-#[unsafe(no_mangle)]
-pub extern "C" fn shoalswift_mend_positions(
+pub fn shoalswift_mend_positions(
     map: &[u8],
     list: &mut [u32],
     positions: &mut u64,
@@ -331,8 +313,7 @@ pub extern "C" fn shoalswift_mend_positions(
 }
 
 // Draws the map of a blank disc.
-#[unsafe(no_mangle)]
-pub extern "C" fn shoalswift_format(
+pub fn shoalswift_format(
     log2secsize: u32,
     capacity: u64,
     idlen: u32,
@@ -354,8 +335,7 @@ pub extern "C" fn shoalswift_format(
 }
 
 // The length of the map that formatting wants.
-#[unsafe(no_mangle)]
-pub extern "C" fn shoalswift_format_length(
+pub fn shoalswift_format_length(
     log2secsize: u32,
     capacity: u64,
     idlen: u32,

@@ -1,46 +1,64 @@
 // Runs stored cases through the library and prints what each call answers and changes, one line a case. The cases (`stdin`) and the
 // lines expected (`stdout`) are written by the second program, so the gate holds the two programs together. The form of a case is
 // described in second/README.md.
+#![tactic(auto)]
+
 ghost use Rattle.std.specs.Prelude.{◌*◌, ◌≤◌, length};
 
-use libc::STDOUT_FILENO;
+use std::io::{self, Read};
 
-fn main() {
+fn main(rt: HostRuntime) -> io::Result<()> {
+    let mut stream = rt.stdin();
     let mut k: usize = 0;
     while k < 65536 {
-        if !next_case() {
-            return;
+        if !next_case(&rt, &mut stream)? {
+            return Ok(());
         }
         k += 1;
     }
+    Ok(())
 }
 
 // Reads a case and runs it; answers whether there was one.
-fn next_case() -> bool {
+fn next_case<R: Read>(rt: &impl Print, from: &mut R) -> io::Result<bool> {
     let mut head = [0u8; 32];
-    let n = io::read_full(0, &mut head);
+    let n = input::read_full(from, &mut head)?;
     if n < 32 {
-        return false;
+        return Ok(false);
     }
-    run_case(&head);
-    true
+    run_case(rt, from, &head)?;
+    Ok(true)
 }
 
 // A case with its buffers, twice as long as the largest map of version 0 (255 blocks of 1,024 bytes), and as the longest list and image of a
 // stored case: the part that the call works on, and after it the same as it was read. No stored map of E+ is longer. A case of two copies has
 // the second one, or the target, in the image's place.
-fn run_case(head: &[u8; 32]) {
+fn run_case<R: Read>(rt: &impl Print, from: &mut R, head: &[u8; 32]) -> io::Result<()> {
     let mut map = [0u8; 522240];
     let mut list = [0u32; 8192];
     let mut image = [0u8; 32768];
-    let m = at_most(number(head, 16), 261120);
-    let k = at_most(number(head, 20), 4096);
-    let n = at_most(number(head, 24), 16384);
-    run_parts(head, &mut map, m, &mut list, k, &mut image, n);
+    run_halves(rt, from, head, &mut map, &mut list, &mut image)
+}
+
+// The part that the call works on is at most half of its buffer.
+fn run_halves<R: Read>(
+    rt: &impl Print,
+    from: &mut R,
+    head: &[u8; 32],
+    map: &mut [u8],
+    list: &mut [u32],
+    image: &mut [u8],
+) -> io::Result<()> {
+    let m = at_most(number(head, 16), map.len() / 2);
+    let k = at_most(number(head, 20), list.len() / 2);
+    let n = at_most(number(head, 24), image.len() / 2);
+    run_parts(rt, from, head, map, m, list, k, image, n)
 }
 
 // The parts are lent on as slices, whose lengths the proof can follow through the calls.
-fn run_parts(
+fn run_parts<R: Read>(
+    rt: &impl Print,
+    from: &mut R,
     head: &[u8; 32],
     map: &mut [u8],
     m: usize,
@@ -48,18 +66,19 @@ fn run_parts(
     k: usize,
     image: &mut [u8],
     n: usize,
-)
+) -> io::Result<()>
     requires { (2 * m ≤ length map.old) × (2 * k ≤ length list.old) × (2 * n ≤ length image.old) }
 {
-    read_bytes(map, m);
-    read_list(list, k);
-    read_bytes(image, n);
-    run_call(head, &mut map[0..m], &mut list[0..k], &mut image[0..n]);
-    print_changes(head, map, m, list, k, image, n);
+    read_bytes(from, map, m)?;
+    read_list(from, list, k)?;
+    read_bytes(from, image, n)?;
+    run_call(rt, head, &mut map[0..m], &mut list[0..k], &mut image[0..n])?;
+    print_changes(rt, head, map, m, list, k, image, n)
 }
 
 // What changed of the list, the map, the image and the target, of a call that may write it.
 fn print_changes(
+    rt: &impl Print,
     head: &[u8; 32],
     map: &[u8],
     m: usize,
@@ -67,26 +86,26 @@ fn print_changes(
     k: usize,
     image: &[u8],
     n: usize,
-)
+) -> io::Result<()>
     requires { (2 * m ≤ length map.now) × (2 * k ≤ length list.now) × (2 * n ≤ length image.now) }
 {
     if writes_list(head[0]) {
-        print_text(b" list");
-        print_changed_entries(list, k);
+        print_text(rt, b" list")?;
+        print_changed_entries(rt, list, k)?;
     }
     if writes_map(head[0]) {
-        print_text(b" map");
-        print_changed_bytes(map, m);
+        print_text(rt, b" map")?;
+        print_changed_bytes(rt, map, m)?;
     }
     if writes_image(head[0]) {
-        print_text(b" image");
-        print_changed_runs(image, n);
+        print_text(rt, b" image")?;
+        print_changed_runs(rt, image, n)?;
     }
     if head[0] == 11 {
-        print_text(b" copy");
-        print_changed_bytes(image, n);
+        print_text(rt, b" copy")?;
+        print_changed_bytes(rt, image, n)?;
     }
-    print_text(b"\n");
+    print_text(rt, b"\n")
 }
 
 fn writes_list(call: u8) -> bool {
@@ -111,55 +130,61 @@ fn writes_image(call: u8) -> bool {
 }
 
 // Runs the call that the head names, and prints its name, its refusal number, the zone told and its values.
-fn run_call(head: &[u8; 32], map: &mut [u8], list: &mut [u32], image: &mut [u8]) {
+fn run_call(
+    rt: &impl Print,
+    head: &[u8; 32],
+    map: &mut [u8],
+    list: &mut [u32],
+    image: &mut [u8],
+) -> io::Result<()> {
     let call = head[0];
     match call {
-        1 => run_check(map),
-        2 => run_list(head, map, list),
-        3 => run_free(map, list),
-        4 => run_address(head, map),
-        5 => run_sweep_object(head, map, image),
-        6 => run_sweep_free(head, map, image),
-        7 => run_release(head, map, list),
-        8 => run_place(head, map, list),
-        9 => run_claim(head, map, list),
-        10 => run_choose_copy(map, image),
-        11 => run_copy_over(map, image),
-        12 => run_copy_addresses(map),
-        13 => run_mend(map),
-        14 => run_mend_positions(map, list),
-        15 => run_format(head, map),
-        16 => run_format_length(head),
-        _ => print_text(b"unknown"),
+        1 => run_check(rt, map),
+        2 => run_list(rt, head, map, list),
+        3 => run_free(rt, map, list),
+        4 => run_address(rt, head, map),
+        5 => run_sweep_object(rt, head, map, image),
+        6 => run_sweep_free(rt, head, map, image),
+        7 => run_release(rt, head, map, list),
+        8 => run_place(rt, head, map, list),
+        9 => run_claim(rt, head, map, list),
+        10 => run_choose_copy(rt, map, image),
+        11 => run_copy_over(rt, map, image),
+        12 => run_copy_addresses(rt, map),
+        13 => run_mend(rt, map),
+        14 => run_mend_positions(rt, map, list),
+        15 => run_format(rt, head, map),
+        16 => run_format_length(rt, head),
+        _ => print_text(rt, b"unknown"),
     }
 }
 
-fn run_check(map: &[u8]) {
+fn run_check(rt: &impl Print, map: &[u8]) -> io::Result<()> {
     let mut zone = 0;
     let r = shoalswift::shoalswift_check(map, &mut zone);
-    print_text(b"check");
-    print_answer(r, zone);
+    print_text(rt, b"check")?;
+    print_answer(rt, r, zone)
 }
 
-fn run_list(head: &[u8; 32], map: &[u8], list: &mut [u32]) {
+fn run_list(rt: &impl Print, head: &[u8; 32], map: &[u8], list: &mut [u32]) -> io::Result<()> {
     let mut zone = 0;
     let mut pairs = 0;
     let r = shoalswift::shoalswift_list(map, word(head, 4), list, &mut pairs, &mut zone);
-    print_text(b"list");
-    print_answer(r, zone);
-    print_value(pairs);
+    print_text(rt, b"list")?;
+    print_answer(rt, r, zone)?;
+    print_value(rt, pairs)
 }
 
-fn run_free(map: &[u8], list: &mut [u32]) {
+fn run_free(rt: &impl Print, map: &[u8], list: &mut [u32]) -> io::Result<()> {
     let mut zone = 0;
     let mut pairs = 0;
     let r = shoalswift::shoalswift_free(map, list, &mut pairs, &mut zone);
-    print_text(b"free");
-    print_answer(r, zone);
-    print_value(pairs);
+    print_text(rt, b"free")?;
+    print_answer(rt, r, zone)?;
+    print_value(rt, pairs)
 }
 
-fn run_address(head: &[u8; 32], map: &[u8]) {
+fn run_address(rt: &impl Print, head: &[u8; 32], map: &[u8]) -> io::Result<()> {
     let mut zone = 0;
     let mut address = 0;
     let mut run = 0;
@@ -171,13 +196,18 @@ fn run_address(head: &[u8; 32], map: &[u8]) {
         &mut run,
         &mut zone,
     );
-    print_text(b"address");
-    print_answer(r, zone);
-    print_value(address);
-    print_value(run);
+    print_text(rt, b"address")?;
+    print_answer(rt, r, zone)?;
+    print_value(rt, address)?;
+    print_value(rt, run)
 }
 
-fn run_sweep_object(head: &[u8; 32], map: &[u8], image: &mut [u8]) {
+fn run_sweep_object(
+    rt: &impl Print,
+    head: &[u8; 32],
+    map: &[u8],
+    image: &mut [u8],
+) -> io::Result<()> {
     let mut zone = 0;
     let mut count = 0;
     let r = shoalswift::shoalswift_sweep_object(
@@ -189,12 +219,17 @@ fn run_sweep_object(head: &[u8; 32], map: &[u8], image: &mut [u8]) {
         &mut count,
         &mut zone,
     );
-    print_text(b"sweep_object");
-    print_answer(r, zone);
-    print_value(count);
+    print_text(rt, b"sweep_object")?;
+    print_answer(rt, r, zone)?;
+    print_value(rt, count)
 }
 
-fn run_sweep_free(head: &[u8; 32], map: &[u8], image: &mut [u8]) {
+fn run_sweep_free(
+    rt: &impl Print,
+    head: &[u8; 32],
+    map: &[u8],
+    image: &mut [u8],
+) -> io::Result<()> {
     let mut zone = 0;
     let mut count = 0;
     let r = shoalswift::shoalswift_sweep_free(
@@ -205,28 +240,33 @@ fn run_sweep_free(head: &[u8; 32], map: &[u8], image: &mut [u8]) {
         &mut count,
         &mut zone,
     );
-    print_text(b"sweep_free");
-    print_answer(r, zone);
-    print_value(count);
+    print_text(rt, b"sweep_free")?;
+    print_answer(rt, r, zone)?;
+    print_value(rt, count)
 }
 
-fn run_release(head: &[u8; 32], map: &mut [u8], list: &mut [u32]) {
+fn run_release(
+    rt: &impl Print,
+    head: &[u8; 32],
+    map: &mut [u8],
+    list: &mut [u32],
+) -> io::Result<()> {
     let mut zone = 0;
     let mut pairs = 0;
     let r = shoalswift::shoalswift_release(map, word(head, 4), list, &mut pairs, &mut zone);
-    print_text(b"release");
-    print_answer(r, zone);
-    print_value(pairs);
+    print_text(rt, b"release")?;
+    print_answer(rt, r, zone)?;
+    print_value(rt, pairs)
 }
 
-fn run_place(head: &[u8; 32], map: &mut [u8], list: &[u32]) {
+fn run_place(rt: &impl Print, head: &[u8; 32], map: &mut [u8], list: &[u32]) -> io::Result<()> {
     let mut zone = 0;
     let r = shoalswift::shoalswift_place(map, word(head, 4), list, &mut zone);
-    print_text(b"place");
-    print_answer(r, zone);
+    print_text(rt, b"place")?;
+    print_answer(rt, r, zone)
 }
 
-fn run_claim(head: &[u8; 32], map: &mut [u8], list: &mut [u32]) {
+fn run_claim(rt: &impl Print, head: &[u8; 32], map: &mut [u8], list: &mut [u32]) -> io::Result<()> {
     let mut zone = 0;
     let mut id = 0;
     let mut pairs = 0;
@@ -239,58 +279,58 @@ fn run_claim(head: &[u8; 32], map: &mut [u8], list: &mut [u32]) {
         &mut pairs,
         &mut zone,
     );
-    print_text(b"claim");
-    print_answer(r, zone);
-    print_value(id as u64);
-    print_value(pairs);
+    print_text(rt, b"claim")?;
+    print_answer(rt, r, zone)?;
+    print_value(rt, id as u64)?;
+    print_value(rt, pairs)
 }
 
-fn run_choose_copy<'a>(first: &'a [u8], second: &'a [u8]) {
+fn run_choose_copy<'a>(rt: &impl Print, first: &'a [u8], second: &'a [u8]) -> io::Result<()> {
     let mut zone = 0;
     let mut which = 0;
     let mut equal = 0;
     let r = shoalswift::shoalswift_choose_copy(first, second, &mut which, &mut equal, &mut zone);
-    print_text(b"choose_copy");
-    print_answer(r, zone);
-    print_value(which as u64);
-    print_value(equal as u64);
+    print_text(rt, b"choose_copy")?;
+    print_answer(rt, r, zone)?;
+    print_value(rt, which as u64)?;
+    print_value(rt, equal as u64)
 }
 
-fn run_copy_over(source: &[u8], target: &mut [u8]) {
+fn run_copy_over(rt: &impl Print, source: &[u8], target: &mut [u8]) -> io::Result<()> {
     let mut zone = 0;
     let r = shoalswift::shoalswift_copy_over(source, target, &mut zone);
-    print_text(b"copy_over");
-    print_answer(r, zone);
+    print_text(rt, b"copy_over")?;
+    print_answer(rt, r, zone)
 }
 
-fn run_copy_addresses(map: &[u8]) {
+fn run_copy_addresses(rt: &impl Print, map: &[u8]) -> io::Result<()> {
     let mut zone = 0;
     let mut first = 0;
     let mut second = 0;
     let r = shoalswift::shoalswift_copy_addresses(map, &mut first, &mut second, &mut zone);
-    print_text(b"copy_addresses");
-    print_answer(r, zone);
-    print_value(first);
-    print_value(second);
+    print_text(rt, b"copy_addresses")?;
+    print_answer(rt, r, zone)?;
+    print_value(rt, first)?;
+    print_value(rt, second)
 }
 
-fn run_mend(map: &mut [u8]) {
+fn run_mend(rt: &impl Print, map: &mut [u8]) -> io::Result<()> {
     let mut zone = 0;
     let r = shoalswift::shoalswift_mend(map, &mut zone);
-    print_text(b"mend");
-    print_answer(r, zone);
+    print_text(rt, b"mend")?;
+    print_answer(rt, r, zone)
 }
 
-fn run_mend_positions(map: &[u8], list: &mut [u32]) {
+fn run_mend_positions(rt: &impl Print, map: &[u8], list: &mut [u32]) -> io::Result<()> {
     let mut zone = 0;
     let mut count = 0;
     let r = shoalswift::shoalswift_mend_positions(map, list, &mut count, &mut zone);
-    print_text(b"mend_positions");
-    print_answer(r, zone);
-    print_value(count);
+    print_text(rt, b"mend_positions")?;
+    print_answer(rt, r, zone)?;
+    print_value(rt, count)
 }
 
-fn run_format(head: &[u8; 32], map: &mut [u8]) {
+fn run_format(rt: &impl Print, head: &[u8; 32], map: &mut [u8]) -> io::Result<()> {
     let mut zone = 0;
     let r = shoalswift::shoalswift_format(
         word(head, 4),
@@ -299,11 +339,11 @@ fn run_format(head: &[u8; 32], map: &mut [u8]) {
         map,
         &mut zone,
     );
-    print_text(b"format");
-    print_answer(r, zone);
+    print_text(rt, b"format")?;
+    print_answer(rt, r, zone)
 }
 
-fn run_format_length(head: &[u8; 32]) {
+fn run_format_length(rt: &impl Print, head: &[u8; 32]) -> io::Result<()> {
     let mut zone = 0;
     let mut length = 0;
     let r = shoalswift::shoalswift_format_length(
@@ -313,30 +353,30 @@ fn run_format_length(head: &[u8; 32]) {
         &mut length,
         &mut zone,
     );
-    print_text(b"format_length");
-    print_answer(r, zone);
-    print_value(length);
+    print_text(rt, b"format_length")?;
+    print_answer(rt, r, zone)?;
+    print_value(rt, length)
 }
 
-fn print_answer(number: u32, zone: u32) {
-    print_value(number as u64);
-    print_value(zone as u64);
+fn print_answer(rt: &impl Print, number: u32, zone: u32) -> io::Result<()> {
+    print_value(rt, number as u64)?;
+    print_value(rt, zone as u64)
 }
 
-fn print_value(x: u64) {
-    print_text(b" ");
-    io::print_decimal(STDOUT_FILENO, x);
+fn print_value(rt: &impl Print, x: u64) -> io::Result<()> {
+    print_text(rt, b" ")?;
+    rt.print(x)
 }
 
-fn print_text(s: &[u8]) {
-    io::write_all(STDOUT_FILENO, s);
+fn print_text(rt: &impl Print, s: &[u8]) -> io::Result<()> {
+    rt.write_all(s)
 }
 
 // ` INDEX=VALUE` of an element that changed.
-fn print_change(i: usize, x: usize) {
-    print_value(i as u64);
-    print_text(b"=");
-    io::print_decimal(STDOUT_FILENO, x as u64);
+fn print_change(rt: &impl Print, i: usize, x: usize) -> io::Result<()> {
+    print_value(rt, i as u64)?;
+    print_text(rt, b"=")?;
+    rt.print(x as u64)
 }
 
 // An entry of a list as a number to print.
@@ -344,88 +384,93 @@ fn entry(x: u32) -> usize {
     x as usize
 }
 
-fn print_changed_entries(list: &[u32], n: usize)
+fn print_changed_entries(rt: &impl Print, list: &[u32], n: usize) -> io::Result<()>
     requires { 2 * n ≤ length list.now }
 {
     let mut i = 0;
     while i < n {
         if list[i] != list[n + i] {
-            print_change(i, entry(list[i]));
+            print_change(rt, i, entry(list[i]))?;
         }
         i += 1;
     }
+    Ok(())
 }
 
-fn print_changed_bytes(bytes: &[u8], n: usize)
+fn print_changed_bytes(rt: &impl Print, bytes: &[u8], n: usize) -> io::Result<()>
     requires { 2 * n ≤ length bytes.now }
 {
     let mut i = 0;
     while i < n {
         if bytes[i] != bytes[n + i] {
-            print_change(i, bits::wide(bytes[i]));
+            print_change(rt, i, bits::wide(bytes[i]))?;
         }
         i += 1;
     }
+    Ok(())
 }
 
 // ` FROM..TO` of each run of bytes that changed.
-fn print_changed_runs(bytes: &[u8], n: usize)
+fn print_changed_runs(rt: &impl Print, bytes: &[u8], n: usize) -> io::Result<()>
     requires { 2 * n ≤ length bytes.now }
 {
     let mut inside = false;
     let mut i = 0;
     while i < n {
         let changed = bytes[i] != bytes[n + i];
-        print_edge(inside, changed, i);
+        print_edge(rt, inside, changed, i)?;
         inside = changed;
         i += 1;
     }
-    print_edge(inside, false, i);
+    print_edge(rt, inside, false, i)
 }
 
 // Where a run starts or ends.
-fn print_edge(inside: bool, changed: bool, i: usize) {
+fn print_edge(rt: &impl Print, inside: bool, changed: bool, i: usize) -> io::Result<()> {
     if changed {
         if !inside {
-            print_value(i as u64);
+            print_value(rt, i as u64)?;
         }
-        return;
+        return Ok(());
     }
     if inside {
-        print_text(b"..");
-        io::print_decimal(STDOUT_FILENO, i as u64);
+        print_text(rt, b"..")?;
+        rt.print(i as u64)?;
     }
+    Ok(())
 }
 
 // Reads n bytes, and keeps them once more after the first n.
-fn read_bytes(bytes: &mut [u8], n: usize)
+fn read_bytes<R: Read>(from: &mut R, bytes: &mut [u8], n: usize) -> io::Result<()>
     requires { 2 * n ≤ length bytes.old }
 {
-    io::read_full(0, &mut bytes[0..n]);
+    input::read_full(from, &mut bytes[0..n])?;
     let mut i = 0;
     while i < n {
         bytes[n + i] = bytes[i];
         i += 1;
     }
+    Ok(())
 }
 
 // Reads n entries of a list, lowest byte first, and keeps them once more after the first n.
-fn read_list(list: &mut [u32], n: usize)
+fn read_list<R: Read>(from: &mut R, list: &mut [u32], n: usize) -> io::Result<()>
     requires { 2 * n ≤ length list.old }
 {
     let mut i = 0;
     while i < n {
-        let x = read_entry();
+        let x = read_entry(from)?;
         list[i] = x;
         list[n + i] = x;
         i += 1;
     }
+    Ok(())
 }
 
-fn read_entry() -> u32 {
+fn read_entry<R: Read>(from: &mut R) -> io::Result<u32> {
     let mut bytes = [0u8; 32];
-    io::read_full(0, &mut bytes[..4]);
-    word(&bytes, 0)
+    input::read_full(from, &mut bytes[..4])?;
+    Ok(word(&bytes, 0))
 }
 
 fn at_most(x: usize, most: usize) -> usize
