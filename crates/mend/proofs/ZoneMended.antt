@@ -23,13 +23,6 @@ module _ {m : List ℕ} {g : Geometry} {z room : ℕ} (q : ZoneMend m g z room) 
   block_sized : length (zone_block g m z) ≡ g.sector
   block_sized = (zone_sound q.reads z (omega arith) q.zone).sized
 
-  -- the block copied over bytes of its length
-  pub block_copied : (old : List ℕ) {new : List ℕ} → length old ≡ g.sector
-      → new ≡ take (length (zone_block g m z)) (zone_block g m z) ++ drop (length (zone_block g m z)) old → new ≡ zone_block g m z
-  block_copied old h e =
-      let b = zone_block g m z in
-      e ∙ ap₂ (λ (x y : List ℕ). x ++ y) (take-length b) (drop_of_length-le old {i = length b} (omega (arith, block_sized))) ∙ append-nil b
-
   module _ (pieces : List ℕ) (n : ℕ) (e : pieces_from pieces 0 n ≡ own_pieces g m z) {b : List ℕ} (eb : b ≡ zone_block g m z) where
     pub zone_drawing : 3 * n ≤ length pieces → ZoneDrawing g z b pieces n
     zone_drawing h = drawing_listed pieces n q.reads.numbers q.zone (ap length eb ∙ block_sized) h e q.drawable

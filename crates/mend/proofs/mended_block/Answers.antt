@@ -1,6 +1,6 @@
 -- The zone's block is copied, and drawn in the copy from the zone's pieces (`ZoneMended`).
 use native.Mathlib.Omega.{arith}
-use Rattle.mend.proofs.ZoneMended.{block_ends, block_copied, zone_drawing, zone_drawn_law}
+use Rattle.mend.proofs.ZoneMended.{block_ends, zone_drawing, zone_drawn_law}
 use borrow.Author.Rules.{rules}
 use Rattle.mend.proofs.mended_block.Goals as goal
 
@@ -16,11 +16,11 @@ slice_bounds-copy_from_slice-end c = omega (arith, block_ends c.requires.0.reads
 pub draw_zone-requires : goal.draw_zone-requires
 draw_zone-requires c =
     let u = c.staying-n in
-    zone_drawing c.requires.0 u.new.buffer u.result u.ensures.1 (block_copied c.requires.0 c.args.block.now c.requires.1 c.copy.ensures.1)
+    zone_drawing c.requires.0 u.new.buffer u.result u.ensures.1 c.copy_from_slice.ensures.after
     (omega (arith, u.ensures.0, u.auto.buffer, c.requires.0.fits))
 
 pub returns : goal.returns
 returns c =
     let u = c.staying-n in
-    zone_drawn_law c.requires.0 u.new.buffer u.result u.ensures.1 (block_copied c.requires.0 c.args.block.now c.requires.1 c.copy.ensures.1) c.args.change
+    zone_drawn_law c.requires.0 u.new.buffer u.result u.ensures.1 c.copy_from_slice.ensures.after c.args.change
     c.draw_zone.ensures
