@@ -2,10 +2,9 @@
 use Rattle.runs.proofs.MapsEdited.{accepted_editable, map_a_law}
 use Rattle.runs.proofs.StepLaws.{refused_keeps, reads_after, release_accepted, release_place, given_release, claim_places}
 use Rattle.runs.proofs.EveryRun.{run_claims, same_lists_same_bytes}
-use Rattle.runs.proofs.demand_3.Statement.{statement}
-use Rattle.runs.proofs.demand_3.Tie as tie
+use Rattle.runs.proofs.demand_3.Goals as goal
 
-returns : tie.Need-returns
+pub returns : goal.returns
 returns c =
     record {
       accepted_editable = accepted_editable;
@@ -19,6 +18,3 @@ returns c =
       every_run = run_claims;
       same_lists_same_bytes = same_lists_same_bytes;
     }
-
-pub demand-3-spec : {M : Type 1} → statement M
-demand-3-spec = tie.close (tie.spec returns)

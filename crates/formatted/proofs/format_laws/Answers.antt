@@ -1,13 +1,13 @@
 -- The laws of `Laws`, each from the file that shows it.
-use Rattle.formatted.proofs.format_laws.Statement.{statement}
-use Rattle.formatted.proofs.format_laws.Tie as tie
 use Rattle.formatted.proofs.Units.{to_124, to_249, to_499, to_999}
 use Rattle.formatted.proofs.Judged.{format_judged, length_judged}
 use Rattle.formatted.proofs.MapDrawn.{formats, wanted}
 use Rattle.formatted.proofs.NoneSuits.{none_suits}
+use Rattle.formatted.proofs.format_laws.Goals as goal
 
-returns : tie.Need-returns
-returns c = record {
+pub returns : goal.returns
+returns c =
+    record {
   format_judged = format_judged;
   length_judged = length_judged;
   wanted = wanted;
@@ -18,6 +18,3 @@ returns c = record {
   to_499 = to_499;
   to_999 = to_999;
 }
-
-pub format-laws-spec : {M : Type 1} → statement M
-format-laws-spec = tie.close (tie.spec returns)

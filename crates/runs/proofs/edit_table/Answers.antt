@@ -1,9 +1,8 @@
 -- The laws of TableKept.
 use Rattle.runs.proofs.TableKept.{touching_told, none_touching, release_by_table, place_by_table, claim_by_table}
-use Rattle.runs.proofs.edit_table.Statement.{statement}
-use Rattle.runs.proofs.edit_table.Tie as tie
+use Rattle.runs.proofs.edit_table.Goals as goal
 
-returns : tie.Need-returns
+pub returns : goal.returns
 returns c =
     record {
       touching_told = touching_told;
@@ -12,6 +11,3 @@ returns c =
       place_by_table = place_by_table;
       claim_by_table = claim_by_table;
     }
-
-pub edit-table-spec : {M : Type 1} → statement M
-edit-table-spec = tie.close (tie.spec returns)

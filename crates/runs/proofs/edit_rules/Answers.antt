@@ -23,8 +23,7 @@ use Rattle.runs.proofs.ZonesTried.{zones_tried}
 use Rattle.edits.proofs.Chosen.{need_long}
 use Rattle.edits.proofs.ClustersKept.{need_clusters}
 use Rattle.edits.proofs.NeedRules.{need_enough, need_least}
-use Rattle.runs.proofs.edit_rules.Statement.{statement}
-use Rattle.runs.proofs.edit_rules.Tie as tie
+use Rattle.runs.proofs.edit_rules.Goals as goal
 
 all_read : (list : List ℕ) → length list % 2 ≡ 0 → numbers_of (pairs_from list) ≡ list
 all_read [] e = refl
@@ -41,7 +40,7 @@ claimed m ed size parent room id qs a =
     let e : t.1 ≡ qs = cc t.3 in
     subst (ClaimedBits g size) e (claimed_bits g l size parent t.0 t.1 ok p.fit p.clusters t.4 t.2)
 
-returns : tie.Need-returns
+pub returns : goal.returns
 returns c =
     record {
       all_read = all_read;
@@ -58,6 +57,3 @@ returns c =
       rules_give_fits = λ m ed. rules_give_fits (geometry_of m) (map_geometry m (zones_of m) ed.bytes ed.accepted);
       never_fourteen = never_fourteen;
     }
-
-pub edit-rules-spec : {M : Type 1} → statement M
-edit-rules-spec = tie.close (tie.spec returns)
