@@ -1,11 +1,7 @@
 -- The laws of `Laws`.
 use Rattle.station.proofs.CutOff.{yields, edits_yield}
 use Rattle.station.proofs.BlockEdge.{half_edit_accepted, even_written}
-use Rattle.station.proofs.station_laws.Statement.{statement}
-use Rattle.station.proofs.station_laws.Tie as tie
+use Rattle.station.proofs.station_laws.Goals as goal
 
-returns : tie.Need-returns
+pub returns : goal.returns
 returns c = record { cut_off = yields; edits_cut_off = edits_yield; at_block_edge = half_edit_accepted; even_written = even_written }
-
-pub station-laws-spec : {M : Type 1} → statement M
-station-laws-spec = tie.close (tie.spec returns)
