@@ -8,7 +8,7 @@ use Rattle.geometry.proofs.DiscBits.{disc_bits_small}
 use Rattle.formatted.specs.Drawn.{object_one_from, object_one}
 use Rattle.format.proofs.Places.{last_is, reaches_back, starts_over, one_in_map, piece_is}
 use Rattle.format.proofs.object_one.Goals as goal
-use Rattle.format.proofs.object_one.Goals.{Joined-minus-shortest_fragment}
+use Rattle.format.proofs.object_one.Goals.{Joined-minus-shortest_fragment, then-minus-shortest_fragment, else-minus-shortest_fragment}
 
 -- where the piece starts, once the test is done
 starts : (c : Joined-minus-shortest_fragment) → c.if-minus-shortest_fragment.start ≡ object_one_from c.args.g
@@ -16,10 +16,10 @@ starts c =
     let g = c.args.g in
     let from = last_is g c.first_disc_bit-last.result.0 c.larger-from.result c.args.two c.requires.1 c.first_disc_bit-last.ensures c.larger-from.ensures in
     let gap = c.minus.ensures ∙ ap₂ ◌-◌ c.overhang_from-over.ensures from in
-    ⊎_elim
-    (λ w. reaches_back g c.if-minus-shortest_fragment.start c.minus.result c.shortest_fragment.result gap c.shortest_fragment.ensures w.0.taken (w.1 ∙ from))
-    (λ w. starts_over g c.if-minus-shortest_fragment.start c.minus.result c.shortest_fragment.result gap c.shortest_fragment.ensures w.0.left (w.1 ∙ c.overhang_from-over.ensures))
-    c.if-minus-shortest_fragment.branch
+    elim c.if-minus-shortest_fragment.branch [
+      then-minus-shortest_fragment w ↦ reaches_back g c.if-minus-shortest_fragment.start c.minus.result c.shortest_fragment.result gap c.shortest_fragment.ensures w.if-minus-shortest_fragment.true (w.start-is ∙ from)
+      | else-minus-shortest_fragment w ↦ starts_over g c.if-minus-shortest_fragment.start c.minus.result c.shortest_fragment.result gap c.shortest_fragment.ensures w.if-minus-shortest_fragment.false (w.start-is ∙ c.overhang_from-over.ensures)
+    ]
 
 pub overflow_cast-result : goal.overflow_cast-result
 overflow_cast-result c =
