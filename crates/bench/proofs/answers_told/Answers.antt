@@ -46,8 +46,7 @@ use Rattle.format.specs.Formats.{format_numbers, format_told, Formatting, length
 use Rattle.format.specs.declared.Formatted.{Formatted}
 use Rattle.format.specs.declared.MapLength.TheVariants as long
 use Rattle.bench.specs.Tells.{ListTells, ReleaseTells, ClaimTells, ChoiceTells, PositionsTells, FormatTells}
-use Rattle.bench.proofs.answers_told.Statement.{statement}
-use Rattle.bench.proofs.answers_told.Tie as tie
+use Rattle.bench.proofs.answers_told.Goals as goal
 
 listed : (found : Answer (List Pair)) (old : List ℕ) (r : Listed) (new : List ℕ) → Lists found old r new → ListTells found old r new
 listed found old r new p = record {
@@ -153,8 +152,9 @@ length_drawn logsector capacity idlen n p old l s after f q c =
     let ed = (formats logsector capacity idlen n w.0 w.1).in_order in
     (t.0, c.numbers ∙ ap check_told (ap map_read t.1 ∙ ed.accepted))
 
-returns : tie.Need-returns
-returns c = record {
+pub returns : goal.returns
+returns c =
+    record {
   checks = λ m r p. record { refused_told = λ n z e. p.numbers ∙ ap check_told e; accepted_told = λ ess e. p.numbers ∙ ap check_told e };
   lists = listed;
   reaches = λ m n position r p. record { refused_told = λ k z e. p.numbers ∙ ap address_told e; accepted_told = λ l e. p.numbers ∙ ap address_told e };
@@ -187,6 +187,3 @@ returns c = record {
       (let t = placed_back m ed id old r after new p qs e s end q in (q.numbers ∙ ap place_told t.0, t.1));
   claimed_released = released_back;
 }
-
-pub answers-told-spec : {M : Type 1} → statement M
-answers-told-spec = tie.close (tie.spec returns)

@@ -26,8 +26,7 @@ use Rattle.mend.specs.declared.Changes.TheVariants as changes
 use Rattle.format.specs.declared.Formatted.TheVariants as formatted
 use Rattle.format.specs.declared.MapLength.TheVariants as long
 use Rattle.bench.specs.Table.{touching_d}
-use Rattle.bench.proofs.empty_programs.Statement.{statement}
-use Rattle.bench.proofs.empty_programs.Tie as tie
+use Rattle.bench.proofs.empty_programs.Goals as goals
 
 -- an accepted answer is no refusal
 accepted_refused : {g : Geometry} {r : Refusal} → check.Accepted g ≡ check.Refused r → ⊥
@@ -104,7 +103,7 @@ many n = n.3
 abbrev byte : List ℕ → ℕ
 byte l = get_or l 0 0
 
-returns : tie.Need-returns
+pub returns : goals.returns
 unfolding zone_check words_of total count_trailing_zeros
 returns c =
     record {
@@ -198,6 +197,3 @@ returns c =
       length_never = λ h. told_refused (sym (h disc).1.answer);
       length_same = λ h. told_refused (sym (h.1 disc).answer ∙ (h.1 (8, 0, 11)).answer);
     }
-
-pub empty-programs-spec : {M : Type 1} → statement M
-empty-programs-spec = tie.close (tie.spec returns)
