@@ -1,0 +1,15 @@
+-- The bytes passed are stored; one more at each turn.
+use mathlib.Core.Path.{refl}
+use Prim.Native.Nat.{◌+◌, ◌-◌, ◌≤◌}
+use native.Mathlib.Omega.{arith}
+use lib.ListN.{length, take}
+use Rattle.map_text.specs.Parts.{Puts}
+use Rattle.map_text.proofs.Pieces.{puts_kept, puts_more, puts_word}
+use borrow.Author.Rules.{rules}
+use Rattle.map_text.proofs.put_word.Given as goal
+
+abbrev pub invariant-loop-k : goal.invariant-loop-k
+invariant-loop-k l = (l.k ≤ length l.word) × Puts (take l.k l.word) l.initial.text l.at (l.at + l.k) l.text
+
+abbrev pub decreases-loop-k : goal.decreases-loop-k
+decreases-loop-k l = length l.word - l.k
