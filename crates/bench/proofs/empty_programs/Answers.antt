@@ -14,7 +14,7 @@ use Rattle.listing.specs.declared.Listed.TheVariants as listed
 use Rattle.address.specs.declared.Location.{Location}
 use Rattle.address.specs.declared.Reached.TheVariants as reached
 use Rattle.sweep.specs.declared.Swept.TheVariants as swept
-use Rattle.place.specs.declared.Placed.TheVariants as goal
+use Rattle.place.specs.declared.Placed.TheVariants as given
 use Rattle.claim.specs.Claimed.{claim_numbers}
 use Rattle.claim.specs.declared.Claimed.TheVariants as taken
 use Rattle.copies.specs.declared.Copied.TheVariants as copied
@@ -26,7 +26,7 @@ use Rattle.mend.specs.declared.Changes.TheVariants as changes
 use Rattle.format.specs.declared.Formatted.TheVariants as formatted
 use Rattle.format.specs.declared.MapLength.TheVariants as long
 use Rattle.bench.specs.Table.{touching_d}
-use Rattle.bench.proofs.empty_programs.Goals as goals
+use Rattle.bench.proofs.empty_programs.Goals as goal
 
 -- an accepted answer is no refusal
 accepted_refused : {g : Geometry} {r : Refusal} → check.Accepted g ≡ check.Refused r → ⊥
@@ -41,7 +41,7 @@ at_refused e = let z : ◌≡◌ {A = ℕ} 0 1 = cc in omega arith
 count_refused : {n : ℕ} {r : Refusal} → swept.Count n ≡ swept.Refused r → ⊥
 count_refused e = let z : ◌≡◌ {A = ℕ} 0 1 = cc in omega arith
 
-done_refused : {r : Refusal} → goal.Done ≡ goal.Refused r → ⊥
+done_refused : {r : Refusal} → given.Done ≡ given.Refused r → ⊥
 done_refused e = let z : ◌≡◌ {A = ℕ} 0 1 = cc in omega arith
 
 claimed_refused : {id n : ℕ} {r : Refusal} → taken.Pairs id n ≡ taken.Refused r → ⊥
@@ -103,7 +103,7 @@ many n = n.3
 abbrev byte : List ℕ → ℕ
 byte l = get_or l 0 0
 
-pub returns : goals.returns
+pub returns : goal.returns
 unfolding zone_check words_of total count_trailing_zeros
 returns c =
     record {
