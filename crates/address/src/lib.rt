@@ -1,4 +1,6 @@
 // The disc address of a byte of a file, and how far may be read from there (document 01, "The calls"; document 02, R-11).
+#![tactic(auto)]
+
 ghost use Rattle.std.specs.Prelude.{◌≡◌, ◌<◌, ◌≤◌};
 ghost use Rattle.geometry.specs.Accepted.{AcceptedGeometry};
 ghost use Rattle.map.specs.Accepted.{AcceptedMap};

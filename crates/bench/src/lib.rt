@@ -1,6 +1,8 @@
 // Document 01's bench examples: one table of questions and answers (specs/Table), and one statement over it. And what the examples
 // shut out: programs that refuse always, answer always the same or write nothing, and sweeps that write everywhere (specs/Empty). And
 // what the calls' promises come to in the table's numbers (specs/Tells).
+#![tactic(auto)]
+
 ghost use Rattle.std.specs.Prelude.{◌≡◌, map};
 ghost use Rattle.bench.specs.Table.{table, answered, expected};
 ghost use Rattle.bench.specs.MendTable.{mend_table};

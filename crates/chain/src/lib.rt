@@ -1,5 +1,7 @@
 // The walk over the free fragments of a map whose zones can be read. It follows each zone's chain, so fragments that are owned are not read
 // at all: what it costs grows with the free fragments, not with all of them.
+#![tactic(auto)]
+
 ghost use Rattle.std.specs.Prelude.{◌≡◌, ◌+◌, ◌<◌, ◌≤◌};
 ghost use Rattle.bits.specs.Bits.{byte_bits};
 ghost use Rattle.geometry.specs.Places.{end_bit};

@@ -8,6 +8,8 @@
 // A zone check guards its own block, the cross checks tie the blocks together. The zone check is given twice, by words
 // and by byte columns as document 000 has it; `CheckLaws` says that they agree on every block. The product
 // uses the words.
+#![tactic(auto)]
+
 ghost use Rattle.std.specs.Prelude.{◌≡◌, ◌+◌, ◌-◌, ◌%◌, ◌^◌, ◌<◌, ◌≤◌, length};
 ghost use Rattle.checks.specs.Words.{add_carry, fold_bytes, zone_check};
 ghost use Rattle.checks.specs.Sums.{sum_from};

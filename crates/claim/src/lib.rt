@@ -2,6 +2,8 @@
 // zone's distance from the parent; or, where none is, several holes, the largest first. What is chosen (`choose`) is apart from how it is given
 // (`give`). One pass over the map looks for a hole that is long enough; if there is none, passes along the chains find what is taken of all; and one
 // pass looks for an id of the first hole's zone, and if there is none left one more, or at most four where ids are many.
+#![tactic(auto)]
+
 ghost use Rattle.std.specs.Prelude.{◌≡◌, true, [], ◌∷◌, ◌+◌, ◌*◌, ◌<◌, ◌≤◌, length};
 ghost use Rattle.bits.specs.Bits.{byte_bits};
 ghost use Rattle.geometry.specs.Accepted.{AcceptedGeometry};

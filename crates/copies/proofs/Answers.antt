@@ -1,11 +1,10 @@
 -- The answers of the three calls, case by case: by what the check found, then by the lengths; and what is left of the target.
 use mathlib.Core.Path.{◌≡◌, refl, sym, ap, ap₂, ◌∙◌}
 use mathlib.Core.Bool.{Bool, true, false, cond}
-use mathlib.Core.List.{List, [], ◌++◌}
+use mathlib.Core.List.{List, []}
 use Prim.Native.Nat.{ℕ}
-use native.Mathlib.Omega.{arith}
 use lib.Dec.{eqb}
-use lib.ListN.{length, take, drop}
+use lib.ListN.{length}
 use borrow.Author.Tests.{eq-eqb, ne_eqb}
 use mir.Val.{bool_byte}
 use Rattle.geometry.specs.declared.Geometry.{Geometry}
@@ -29,7 +28,6 @@ use Rattle.copies.specs.declared.Located.TheVariants as located
 use Rattle.copies.specs.Copies.{Copy, first, second, or_else, copy_found, part_of, same_bytes, choice_told, Chooses}
 use Rattle.copies.specs.Copies.{copy_judged, target_after, copy_answer, copy_numbers, copy_told, CopiesOver}
 use Rattle.copies.specs.Copies.{copies_of, addresses_found, addresses_answer, addresses_numbers, addresses_told, TellsAddresses}
-use Rattle.copies.proofs.Whole.{written_all}
 
 -- a test as a number
 pub as_number : {t u : Bool} → t ≡ u → bool_byte t ≡ cond u 1 0

@@ -1,7 +1,7 @@
 -- Where the copies lie: the middle zone's first fragment is object 2's, so the first pair that `list` answers for 2 starts with the zone's
 -- first bit, and it ends on the disc.
 use mathlib.Core.Path.{◌≡◌, refl, sym, ap, ◌∙◌, subst}
-use mathlib.Core.Bool.{true, false, not, ◌&&◌, ◌||◌, false≢true}
+use mathlib.Core.Bool.{true, not, ◌&&◌, ◌||◌, false≢true}
 use mathlib.Core.List.{List, [], ◌∷◌, ◌++◌}
 use mathlib.Core.Logic.{◌⊎◌, inl, inr}
 use Prim.Native.Nat.{ℕ, suc, ◌+◌, ◌-◌, ◌*◌, ◌/◌, ◌<◌, ◌≤◌}

@@ -8,6 +8,8 @@
 //
 // A pair yields a map while one of the two is accepted. So no call of this library writes both: each is lent one map to write, and a copy
 // that is accepted can be left alone until the other is whole.
+#![tactic(auto)]
+
 ghost use Rattle.std.specs.Prelude.{◌≡◌};
 ghost use Rattle.geometry.specs.Accepted.{AcceptedGeometry};
 ghost use Rattle.copies.specs.Copies.{same_bytes, Chooses, CopiesOver, copies_of, TellsAddresses};

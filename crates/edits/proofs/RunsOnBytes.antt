@@ -1,7 +1,7 @@
 -- Runs of calls on the bytes of an accepted map in which no two free fragments touch (demand 3). After every run the map is
 -- what is written from the pieces and cross checks that the run leaves, and is accepted again with these; a run undone last
 -- first leaves every byte as it was.
-use mathlib.Core.Path.{◌≡◌, sym, ap, ap₂, ◌∙◌, subst, subst⁻¹}
+use mathlib.Core.Path.{◌≡◌, sym, ap, ap₂, ◌∙◌, subst⁻¹}
 use mathlib.Core.List.{List, [], ◌∷◌}
 use mathlib.Core.Option.{none}
 use Prim.Native.Nat.{ℕ}

@@ -1,5 +1,7 @@
 // Formats a blank disc (document 02, R-13): chooses bytes per map bit and the zones for a capacity, and draws the map. What is drawn is two pieces at
 // most, object 2 and the map's overhang in object 1, on a map that has the disc record and else only 0.
+#![tactic(auto)]
+
 ghost use Rattle.std.specs.Prelude.{◌≡◌, ◌∷◌, ◌+◌, ◌*◌, ◌<◌, ◌≤◌, length, replicate};
 ghost use Rattle.geometry.specs.Ranges.{FieldRules};
 ghost use Rattle.geometry.specs.Accepted.{AcceptedGeometry};

@@ -7,6 +7,8 @@
 //
 // What the id means is not decided here: on the free chain it leads to the next free fragment, elsewhere it is the owner
 // (crate `zone`).
+#![tactic(auto)]
+
 ghost use Rattle.std.specs.Prelude.{◌≡◌, ◌+◌, ◌*◌, ◌^◌, ◌<◌, ◌≤◌, length};
 ghost use Rattle.std.proofs.Math.Seq.{slice};
 ghost use Rattle.bits.specs.Bits.{byte_bits, zeros};

@@ -1,5 +1,7 @@
 // The geometry of a disc, by value, from the disc record in zone 0 (document 01, "The disc record and its ranges"). It is
 // the one geometry of code and definitions alike: specs/ speak of this very struct.
+#![tactic(auto)]
+
 ghost use Rattle.std.specs.Prelude.{◌≡◌, ◌+◌, ◌-◌, ◌*◌, ◌/◌, ◌%◌, ◌^◌, ◌<◌, ◌≤◌, length};
 ghost use Rattle.geometry.specs.Record.{cluster_of, two_bytes, four_bytes, by_version, record_in, geometry_from};
 ghost use Rattle.geometry.specs.Ranges.{FieldRules, between, fields_fit, geometry_fits, zero_bytes};

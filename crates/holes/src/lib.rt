@@ -1,6 +1,8 @@
 // The holes of a map as a claim in several pieces takes them (document 02, R-8). Each function is a pass along the chains, or so many of them: the
 // holes are neither sorted nor kept. The threshold parts them: longer holes go whole, of those just as long the first ones, and shorter ones
 // are left (`split/Threshold`).
+#![tactic(auto)]
+
 ghost use Rattle.std.specs.Prelude.{◌≡◌, ℕ, suc, ◌+◌, ◌*◌, ◌<◌, ◌≤◌, length};
 ghost use Rattle.std.proofs.lemmas.List.Edits.{sets};
 ghost use Rattle.geometry.specs.Accepted.{AcceptedGeometry};

@@ -1,5 +1,7 @@
 // Lists an object's pieces and the free spans (document 01, "The calls"). A call checks the map, judges its arguments in the
 // table's order, counts, and only then writes: a refusal leaves the lent list as it was.
+#![tactic(auto)]
+
 ghost use Rattle.std.specs.Prelude.{◌≡◌, cond, [], ◌∷◌, ◌+◌, ◌-◌, ◌*◌, ◌<◌, ◌≤◌, eqb, length};
 ghost use Rattle.std.proofs.lemmas.List.Edits.{sets};
 ghost use Rattle.model.specs.Chain.{numbers_of};

@@ -21,7 +21,7 @@ use Rattle.model.specs.Answer.{Answer, refused, answered, unless}
 use Rattle.model.specs.Check.{zones_read, differing, cross_sum, after_checks, blocks_of, measured, map_read}
 use Rattle.map.specs.Checked.{check_answer, checked, blocks_read_by, byte_fault, check_bytes, check_numbers, check_told, Checks, first_differing}
 use Rattle.map.specs.declared.Checked.{Checked}
-use Rattle.map.specs.declared.Checked.TheVariants.{Accepted, Refused}
+use Rattle.map.specs.declared.Checked.TheVariants.{Refused}
 use Rattle.map.specs.declared.CheckBytes.TheVariants as bytes
 use Rattle.map.specs.declared.FirstDiffering.TheVariants as first
 

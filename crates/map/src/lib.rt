@@ -1,5 +1,7 @@
 // The check of a whole map (document 01, "Numbered refusals"): accepted with its geometry, or the first refusal in the
 // order 1 (under 64), 2, 1, 3 over all zones, 4; then zone by zone 6, 5, 7.
+#![tactic(auto)]
+
 ghost use Rattle.std.specs.Prelude.{◌≡◌, ◌+◌, ◌*◌, ◌<◌, ◌≤◌, eqb, length, get_or};
 ghost use Rattle.checks.specs.Words.{zone_check};
 ghost use Rattle.checks.specs.Cross.{cross_of};

@@ -1,6 +1,8 @@
 // The mender (document 02, R-9): a map that is right but for its checks and for free fragments that touch is put in order, and the bytes
 // that this would change are listed. Each zone is drawn anew from its owned pieces, so that all that lies between two of them is one free
 // fragment.
+#![tactic(auto)]
+
 ghost use Rattle.std.specs.Prelude.{◌≡◌, cond, [], ◌∷◌, ◌+◌, ◌*◌, ◌<◌, ◌≤◌, ◌^◌, length};
 ghost use mathlib.Core.List as list_of;
 ghost use Rattle.std.proofs.lemmas.List.Edits.{sets};

@@ -1,5 +1,5 @@
 -- The chain followed, one fragment at a time: the two ways on, and how many bits the fragments have.
-use mathlib.Core.Path.{◌≡◌, refl, sym, subst, subst⁻¹}
+use mathlib.Core.Path.{◌≡◌, refl, sym, subst⁻¹}
 use mathlib.Core.List.{List, [], ◌∷◌}
 use mathlib.Core.Option.{Option, none, some}
 use Prim.Native.Nat.{ℕ, ◌+◌, ◌<◌}

@@ -1,6 +1,8 @@
 // The model of a map: definitions and laws, no code. Fragments, the free chain, the rules of document 01, the check of
 // a map computed, pieces and object order, the drawing of a zone. The code of the crates above is proved to do what
 // these definitions say; the functions here do nothing and carry laws as their contracts.
+#![tactic(auto)]
+
 ghost use Rattle.model.specs.Table.{CheckIsTable};
 ghost use Rattle.model.specs.Drawing.{DrawingLaws};
 

@@ -1,5 +1,7 @@
 // Place (document 01): gives the listed pieces to an absent id, as separate fragments, even where two touch. The whole list is
 // judged (12), then the room for it in every zone (13), and only then is anything written.
+#![tactic(auto)]
+
 ghost use Rattle.std.specs.Prelude.{◌≡◌, ◌+◌, ◌*◌, ◌%◌, ◌<◌, ◌≤◌, length};
 ghost use Rattle.geometry.specs.Accepted.{AcceptedGeometry};
 ghost use Rattle.geometry.specs.Places.{disc_bits};

@@ -1,5 +1,7 @@
 // Release (document 01): removes all fragments of an ordinary object, joins the freed bits with each other and with free
 // neighbours, and returns the object's pairs in object order. Everything is judged before the first write.
+#![tactic(auto)]
+
 ghost use Rattle.std.specs.Prelude.{◌≡◌, true};
 ghost use Rattle.map.specs.Accepted.{AcceptedMap};
 ghost use Rattle.edits.specs.Judge.{editable};

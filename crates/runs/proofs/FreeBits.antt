@@ -1,7 +1,7 @@
 -- Which bits are free after an edit. The free bits are those that no piece has, so an edit frees the bits of the pieces that it takes away, of
 -- which no other piece has any, and those of the pairs that it gives are free no longer.
 use mathlib.Core.Path.{◌≡◌, refl, sym, ap, ◌∙◌, subst, subst⁻¹}
-use mathlib.Core.Bool.{Bool, true, not, false≢true}
+use mathlib.Core.Bool.{Bool, not, false≢true}
 use mathlib.Core.List.{List, [], ◌∷◌, map}
 use mathlib.Core.Logic.{◌⊎◌, ◌↔◌, inl, inr}
 use Prim.Native.Nat.{ℕ, ◌+◌, ◌<◌}

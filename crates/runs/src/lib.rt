@@ -1,5 +1,7 @@
 // Runs of calls: what each call that edits does to the bytes of a map, and demand 3. Definitions and laws, no code; the contracts of
 // release, place and claim say that the code does the steps defined here, so the theorem below is about the code.
+#![tactic(auto)]
+
 ghost use Rattle.runs.specs.Demand3.{Demand3};
 ghost use Rattle.runs.specs.EditTable.{EditTable};
 ghost use Rattle.runs.specs.EditRules.{EditRules};

@@ -1,4 +1,6 @@
 // Sweeps a stretch of disc image: the fill over every byte of an object, or of free space (document 01, "The calls").
+#![tactic(auto)]
+
 ghost use Rattle.std.specs.Prelude.{◌≡◌, ◌++◌, ◌+◌, ◌-◌, ◌/◌, ◌≤◌, min, ltb, length, take, drop, replicate};
 ghost use Rattle.geometry.specs.Accepted.{AcceptedGeometry};
 ghost use Rattle.geometry.specs.Places.{disc_bits};

@@ -1,6 +1,6 @@
 -- What remains for a walk, one fragment at a time: from the first fragment of a zone on it is that zone's lines and the next zones', at a
 -- fragment it starts with that fragment's line, at the zone's end it is what remains from the next zone on, and past the last zone nothing.
-use mathlib.Core.Path.{◌≡◌, refl, sym, ap, ◌∙◌, subst, subst⁻¹}
+use mathlib.Core.Path.{◌≡◌, refl, sym, ap, ◌∙◌, subst⁻¹}
 use mathlib.Core.Bool.{Bool, true, false, cond}
 use mathlib.Core.List.{List, [], ◌∷◌, ◌++◌, map}
 use mathlib.Core.Option.{Option, some}

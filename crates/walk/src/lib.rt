@@ -1,5 +1,7 @@
 // The one walk over the fragments of a map whose zones can be read, by value: a place among the fragments, and a step from one to the next. A zone's
 // end leads on to the next zone, so a caller's loop over a map is one loop over fragments.
+#![tactic(auto)]
+
 ghost use Rattle.std.specs.Prelude.{◌≡◌, cond, ◌<◌};
 ghost use Rattle.model.specs.Chain.{touching};
 ghost use Rattle.model.specs.Shown.{zones_of};

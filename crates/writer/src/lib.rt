@@ -8,6 +8,8 @@
 // The pairs of an edit are in object order: first those from the start zone on, ascending, then those of the zones before it,
 // ascending. So the pairs of each zone stand together, and a pass over the zones from 0 on finds them one part after another: it
 // starts with the pairs before the start zone, and goes back to entry 0 when it comes to the start zone.
+#![tactic(auto)]
+
 ghost use Rattle.std.specs.Prelude.{◌≡◌, cond, ◌&&◌, map, ◌+◌, ◌-◌, ◌*◌, ◌/◌, ◌%◌, ◌^◌, ◌<◌, ◌≤◌, eqb, ltb, length, drop};
 ghost use Rattle.std.specs.Int.Bits.{bit_xor};
 ghost use Rattle.bits.specs.Bits.{byte_bits};

@@ -1,5 +1,7 @@
 // The zone walker (document 01, "Bits, fragments, chains"). It receives a zone's block, the part of the map from z*S to
 // (z+1)*S, and passes its fragments once, from the first allocation bit to the zone's end.
+#![tactic(auto)]
+
 ghost use Rattle.std.specs.Prelude.{◌≡◌, ◌<◌, ◌≤◌, length};
 ghost use Rattle.geometry.specs.Accepted.{AcceptedGeometry};
 ghost use Rattle.geometry.specs.Places.{first_bit, end_bit};

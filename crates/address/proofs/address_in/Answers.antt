@@ -4,7 +4,6 @@ use Prim.Native.Nat.{◌/◌}
 use native.Mathlib.Omega.{arith}
 use Rattle.listing.proofs.Answers.{Object, start_inside}
 use Rattle.address.proofs.AddressAnswers.{edition_refused, number_high, start_refused, no_object, past_object, object_sought}
-use borrow.Author.Rules.{rules}
 use Rattle.address.proofs.address_in.Goals as goal
 use Rattle.address.proofs.address_in.Goals.{After-count_held}
 

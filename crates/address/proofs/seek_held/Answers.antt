@@ -1,16 +1,11 @@
 -- What is sought in the lines that remain is what is sought in all the zones. The measure is how many lines remain.
-use Prim.Native.Nat.{◌-◌}
-use mathlib.Core.Path.{◌≡◌, ap}
+use mathlib.Core.Path.{ap}
 use native.Mathlib.Omega.{arith}
-use lib.ListN.{length}
-use Rattle.walk.specs.Remaining.{remaining, Stands}
 use Rattle.walk.proofs.ZonesRead.{reads_from}
 use Rattle.walk.proofs.Remains.{fewer}
-use Rattle.walk.specs.HeldBy.{held_lines, held_from}
 use Rattle.walk.proofs.HeldLines.{held_starts}
 use Rattle.address.specs.Address.{locate}
 use Rattle.address.proofs.SeekOn.{lines_end, line_found, line_past}
-use borrow.Author.Rules.{rules}
 use Rattle.address.proofs.seek_held.Goals as goal
 
 pub loop-w-init : goal.loop-w-init
@@ -32,12 +27,11 @@ loop-w-smaller c =
     fewer c.next-s.ensures c.args.to c.requires.2 c.loop-w-test.true
 
 pub loop-w-preserved : goal.loop-w-preserved
-loop-w-preserved c =
-    (
-      c.next-s.ensures.stands,
-      line_past c.args.holder c.next-s.ensures c.args.to c.requires.2 c.loop-w-test.true c.args.g.unit c.loop-w.left c.loop-w.invariant.1
-          c.seek_line.ensures c.in-Past.is,
-    )
+loop-w-preserved c = (
+  c.next-s.ensures.stands,
+  line_past c.args.holder c.next-s.ensures c.args.to c.requires.2 c.loop-w-test.true c.args.g.unit c.loop-w.left c.loop-w.invariant.1
+      c.seek_line.ensures c.in-Past.is,
+)
 
 pub returns : goal.returns
 returns c =

@@ -1,16 +1,10 @@
 -- What is sought in the lines that remain is what is sought in all the zones. The measure is how many lines remain.
 use Prim.Native.Nat.{◌-◌}
-use mathlib.Core.Path.{◌≡◌, ap}
-use native.Mathlib.Omega.{arith}
+use mathlib.Core.Path.{◌≡◌}
 use lib.ListN.{length}
 use Rattle.walk.specs.Remaining.{remaining, Stands}
-use Rattle.walk.proofs.ZonesRead.{reads_from}
-use Rattle.walk.proofs.Remains.{fewer}
 use Rattle.walk.specs.HeldBy.{held_lines, held_from}
-use Rattle.walk.proofs.HeldLines.{held_starts}
 use Rattle.address.specs.Address.{locate}
-use Rattle.address.proofs.SeekOn.{lines_end, line_found, line_past}
-use borrow.Author.Rules.{rules}
 use Rattle.address.proofs.seek_held.Given as goal
 
 abbrev pub invariant-loop-w : goal.invariant-loop-w

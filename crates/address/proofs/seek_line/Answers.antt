@@ -2,7 +2,6 @@
 use native.Mathlib.Omega.{arith}
 use Rattle.address.proofs.Bounds.{bytes_small}
 use Rattle.address.proofs.SeekOn.{wanted_at, wanted_past, unwanted_past}
-use borrow.Author.Rules.{rules}
 use Rattle.address.proofs.seek_line.Goals as goal
 
 pub overflow_mul-result : goal.overflow_mul-result

@@ -1,6 +1,5 @@
 -- The byte is sought from the start zone on, and what is left of it in the zones before.
 use Rattle.address.proofs.AddressAnswers.{in_late, in_early, past_both}
-use borrow.Author.Rules.{rules}
 use Rattle.address.proofs.seek_object.Goals as goal
 
 pub returns-in-At : goal.returns-in-At

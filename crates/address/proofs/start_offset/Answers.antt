@@ -1,7 +1,6 @@
 -- The low byte is below 256 and a sector at most 1,024 bytes.
 use native.Mathlib.Omega.{arith}
 use Rattle.address.proofs.Bounds.{no_offset, some_offset, offset_small}
-use borrow.Author.Rules.{rules}
 use Rattle.address.proofs.start_offset.Goals as goal
 
 pub returns-then-s-eq0 : goal.returns-then-s-eq0

@@ -155,35 +155,35 @@ length_drawn logsector capacity idlen n p old l s after f q c =
 pub returns : goal.returns
 returns c =
     record {
-  checks = λ m r p. record { refused_told = λ n z e. p.numbers ∙ ap check_told e; accepted_told = λ ess e. p.numbers ∙ ap check_told e };
-  lists = listed;
-  reaches = λ m n position r p. record { refused_told = λ k z e. p.numbers ∙ ap address_told e; accepted_told = λ l e. p.numbers ∙ ap address_told e };
-  sweeps = λ found first fill old r new p. record {
-    refused_told = λ n z e. (p.numbers ∙ ap (sweep_told first (length old)) e, p.image ∙ ap (image_after first fill old) e);
-    accepted_told = λ k e. (p.numbers ∙ ap (sweep_told first (length old)) e, p.image ∙ ap (image_after first fill old) e);
-  };
-  releases = released;
-  places = λ m id list r after p. record {
-    refused_told = λ n z e. (p.numbers ∙ ap place_told e, p.bytes ∙ ap (bytes_after m) e);
-    accepted_told = λ k e. p.numbers ∙ ap place_told e;
-  };
-  claims = claimed;
-  chooses = chosen;
-  copies = λ source target r after p. record {
-    refused_told = λ n z e. (p.numbers ∙ ap copy_told e, p.bytes ∙ ap (target_after target) e);
-    accepted_told = λ bytes e. (p.numbers ∙ ap copy_told e, p.bytes ∙ ap (target_after target) e ∙ (table_answered (copy_by_table source target) e).value);
-  };
-  mends = λ m r after p. record {
-    refused_told = λ n z e. (p.numbers ∙ ap mend_told e, p.bytes ∙ refused_stays m n z e);
-    accepted_told = λ ess e. p.numbers ∙ ap mend_told e;
-  };
-  positions = changed;
-  listed_changed = listed_changed;
-  formats = drawn;
-  lengths = λ logsector capacity idlen r p. record { refused_told = λ n z e. p.numbers ∙ ap length_told e; accepted_told = λ n e. p.numbers ∙ ap length_told e };
-  length_drawn = length_drawn;
-  locates = λ m r p. record { refused_told = λ n z e. p.numbers ∙ ap addresses_told e; accepted_told = λ l e. p.numbers ∙ ap addresses_told e };
-  returned_placed = λ m ed id old r after new p qs e s end q.
-      (let t = placed_back m ed id old r after new p qs e s end q in (q.numbers ∙ ap place_told t.0, t.1));
-  claimed_released = released_back;
-}
+      checks = λ m r p. record { refused_told = λ n z e. p.numbers ∙ ap check_told e; accepted_told = λ ess e. p.numbers ∙ ap check_told e };
+      lists = listed;
+      reaches = λ m n position r p. record { refused_told = λ k z e. p.numbers ∙ ap address_told e; accepted_told = λ l e. p.numbers ∙ ap address_told e };
+      sweeps = λ found first fill old r new p. record {
+        refused_told = λ n z e. (p.numbers ∙ ap (sweep_told first (length old)) e, p.image ∙ ap (image_after first fill old) e);
+        accepted_told = λ k e. (p.numbers ∙ ap (sweep_told first (length old)) e, p.image ∙ ap (image_after first fill old) e);
+      };
+      releases = released;
+      places = λ m id list r after p. record {
+        refused_told = λ n z e. (p.numbers ∙ ap place_told e, p.bytes ∙ ap (bytes_after m) e);
+        accepted_told = λ k e. p.numbers ∙ ap place_told e;
+      };
+      claims = claimed;
+      chooses = chosen;
+      copies = λ source target r after p. record {
+        refused_told = λ n z e. (p.numbers ∙ ap copy_told e, p.bytes ∙ ap (target_after target) e);
+        accepted_told = λ bytes e. (p.numbers ∙ ap copy_told e, p.bytes ∙ ap (target_after target) e ∙ (table_answered (copy_by_table source target) e).value);
+      };
+      mends = λ m r after p. record {
+        refused_told = λ n z e. (p.numbers ∙ ap mend_told e, p.bytes ∙ refused_stays m n z e);
+        accepted_told = λ ess e. p.numbers ∙ ap mend_told e;
+      };
+      positions = changed;
+      listed_changed = listed_changed;
+      formats = drawn;
+      lengths = λ logsector capacity idlen r p. record { refused_told = λ n z e. p.numbers ∙ ap length_told e; accepted_told = λ n e. p.numbers ∙ ap length_told e };
+      length_drawn = length_drawn;
+      locates = λ m r p. record { refused_told = λ n z e. p.numbers ∙ ap addresses_told e; accepted_told = λ l e. p.numbers ∙ ap addresses_told e };
+      returned_placed = λ m ed id old r after new p qs e s end q.
+          (let t = placed_back m ed id old r after new p qs e s end q in (q.numbers ∙ ap place_told t.0, t.1));
+      claimed_released = released_back;
+    }

@@ -4,7 +4,6 @@ use mathlib.Core.Path.{◌≡◌}
 use lib.ListN.{length}
 use native.Mathlib.Omega.{arith}
 use Rattle.bits.proofs.Words.{four_more, none_past_end}
-use borrow.Author.Rules.{rules}
 use Rattle.bits.proofs.last_word.Goals as goal
 
 pub returns-then-left-lt4 : goal.returns-then-left-lt4

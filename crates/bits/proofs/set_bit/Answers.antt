@@ -2,7 +2,6 @@
 use Prim.Native.Nat.{◌/◌}
 use native.Mathlib.Omega.{arith}
 use Rattle.bits.proofs.Stored.{stored_one}
-use borrow.Author.Rules.{rules}
 use Rattle.bits.proofs.set_bit.Goals as goal
 
 pub returns : goal.returns

@@ -3,7 +3,6 @@ use mathlib.Core.Path.{◌∙◌, sym, ap}
 use mathlib.Core.Bool.{Bool}
 use lib.ListN.{set}
 use Rattle.bits.specs.Bits.{byte_bits}
-use borrow.Author.Rules.{rules}
 use Rattle.bits.proofs.write_bit.Goals as goal
 
 pub returns-then-v : goal.returns-then-v

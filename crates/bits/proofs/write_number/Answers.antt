@@ -1,10 +1,7 @@
 -- What is left to write, written into the bits so far, is the whole number written.
-use Prim.Native.Nat.{◌+◌, ◌-◌, ◌≤◌}
-use mathlib.Core.Path.{◌≡◌, refl, ◌∙◌}
+use mathlib.Core.Path.{refl, ◌∙◌}
 use native.Mathlib.Omega.{arith}
-use lib.ListN.{length}
-use lib.Seq.{sets}
-use Rattle.bits.specs.Bits.{byte_bits, number_bits}
+use Rattle.bits.specs.Bits.{byte_bits}
 use Rattle.bits.proofs.Stored.{write_first, write_step, write_last}
 use borrow.Author.Rules.{rules}
 use Rattle.bits.proofs.write_number.Goals as goal

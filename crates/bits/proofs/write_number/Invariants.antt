@@ -1,12 +1,9 @@
 -- What is left to write, written into the bits so far, is the whole number written.
 use Prim.Native.Nat.{◌+◌, ◌-◌, ◌≤◌}
-use mathlib.Core.Path.{◌≡◌, refl, ◌∙◌}
-use native.Mathlib.Omega.{arith}
+use mathlib.Core.Path.{◌≡◌}
 use lib.ListN.{length}
 use lib.Seq.{sets}
 use Rattle.bits.specs.Bits.{byte_bits, number_bits}
-use Rattle.bits.proofs.Stored.{write_first, write_step, write_last}
-use borrow.Author.Rules.{rules}
 use Rattle.bits.proofs.write_number.Given as goal
 
 abbrev pub invariant-loop-i : goal.invariant-loop-i

@@ -7,7 +7,6 @@ use borrow.Author.Tests.{eqb-true, leb-true}
 use Rattle.bits.specs.Bits.{byte_bits}
 use Rattle.bits.proofs.Tests.{both}
 use Rattle.bits.proofs.Stored.{byte_written, bit_written}
-use borrow.Author.Rules.{rules}
 use Rattle.bits.proofs.write_some.Goals as goal
 
 pub returns-then-both : goal.returns-then-both

@@ -1,5 +1,5 @@
 -- The zeros passed and those still ahead are all of them.
-use Prim.Native.Nat.{ℕ, ◌+◌, ◌-◌, ◌%◌, ◌<◌, ◌≤◌, min}
+use Prim.Native.Nat.{ℕ, ◌-◌, ◌%◌, ◌<◌, ◌≤◌, min}
 use mathlib.Core.Path.{◌≡◌, sym, ap, ◌∙◌}
 use mathlib.Core.Bool.{Bool, true, false, not, ◌&&◌}
 use native.Mathlib.Nat.{lt_of_le_of_lt}
@@ -12,7 +12,6 @@ use Rattle.bits.specs.Bits.{byte_bits, zeros}
 use Rattle.bits.proofs.BitRuns.{zeros_end}
 use Rattle.bits.proofs.Tests.{by_test, both}
 use Rattle.bits.proofs.Words.{one_inside, word_found, word_passed}
-use borrow.Author.Rules.{rules}
 use Rattle.bits.proofs.zero_run.Goals as goal
 
 pub overflow_cast-zeros : goal.overflow_cast-zeros

@@ -1,11 +1,8 @@
 -- The zeros of the words passed and those still ahead are all of them.
-use Prim.Native.Nat.{◌+◌, ◌-◌, ◌*◌, ◌/◌, ◌%◌, ◌≤◌}
+use Prim.Native.Nat.{◌+◌, ◌-◌, ◌*◌, ◌/◌, ◌≤◌}
 use mathlib.Core.Path.{◌≡◌}
 use lib.Seq.{slice}
-use native.Mathlib.Omega.{arith}
 use Rattle.bits.specs.Bits.{byte_bits, zeros}
-use Rattle.bits.proofs.Words.{zero_word}
-use borrow.Author.Rules.{rules}
 use Rattle.bits.proofs.zero_words.Given as goal
 
 abbrev pub invariant-loop-n : goal.invariant-loop-n

@@ -1,7 +1,6 @@
 -- The block of zone z lies within the map.
 use native.Mathlib.Omega.{arith}
 use Rattle.model.proofs.ByPlace.{zone_end_law}
-use borrow.Author.Rules.{rules}
 use Rattle.chain.proofs.first_in.Goals as goal
 
 pub overflow_mul-a : goal.overflow_mul-a

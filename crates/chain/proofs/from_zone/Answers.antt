@@ -1,7 +1,5 @@
 -- Zones in which nothing is free are passed over.
-use Prim.Native.Nat.{◌-◌, ◌≤◌}
-use mathlib.Core.Path.{◌≡◌, refl, ◌∙◌}
-use Rattle.walk.specs.HeldBy.{held_from}
+use mathlib.Core.Path.{refl, ◌∙◌}
 use Rattle.walk.proofs.ZonesRead.{reads_on}
 use Rattle.chain.proofs.Ahead.{zone_full, starts_here, starts_past, starts_before}
 use borrow.Author.Rules.{rules}

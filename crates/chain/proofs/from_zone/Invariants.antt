@@ -1,10 +1,7 @@
 -- Zones in which nothing is free are passed over.
 use Prim.Native.Nat.{◌-◌, ◌≤◌}
-use mathlib.Core.Path.{◌≡◌, refl, ◌∙◌}
+use mathlib.Core.Path.{◌≡◌}
 use Rattle.walk.specs.HeldBy.{held_from}
-use Rattle.walk.proofs.ZonesRead.{reads_on}
-use Rattle.chain.proofs.Ahead.{zone_full, starts_here, starts_past, starts_before}
-use borrow.Author.Rules.{rules}
 use Rattle.chain.proofs.from_zone.Given as goal
 
 abbrev pub invariant-loop-y : goal.invariant-loop-y

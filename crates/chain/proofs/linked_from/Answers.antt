@@ -3,7 +3,6 @@ use mathlib.Core.Path.{ap, ◌∙◌}
 use native.Mathlib.Omega.{arith}
 use Rattle.model.specs.Chain.{onward}
 use Rattle.model.proofs.ByPlace.{zone_end_law}
-use borrow.Author.Rules.{rules}
 use Rattle.chain.proofs.linked_from.Goals as goal
 
 pub overflow_mul-a : goal.overflow_mul-a

@@ -11,7 +11,6 @@ use Rattle.model.proofs.ByPlace.{zone_end_law}
 use Rattle.fragment.specs.Reading.{id_at, length_at}
 use Rattle.walk.proofs.ZonesRead.{reads_on}
 use Rattle.chain.proofs.Ahead.{in_bits, closes_here, advances_here, advances_on}
-use borrow.Author.Rules.{rules}
 use Rattle.chain.proofs.next.Goals as goal
 use Rattle.chain.proofs.next.Goals.{After-link_from-linked, After-whole_fragment-f}
 

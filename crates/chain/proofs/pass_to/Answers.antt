@@ -1,17 +1,13 @@
 -- The spans passed so far, and those ahead, are all of them; each was passed since the next one starts at d or before.
 use Prim.Native.Nat.{ℕ, ◌+◌, ◌<◌, ◌≤◌}
-use mathlib.Core.Path.{◌≡◌, refl, ap}
+use mathlib.Core.Path.{refl, ap}
 use mathlib.Core.List.{List}
 use native.Mathlib.Omega.{arith}
 use lib.ListN.{length}
-use Rattle.bits.specs.Bits.{byte_bits}
 use Rattle.geometry.specs.declared.Geometry.{Geometry}
 use Rattle.geometry.specs.Places.{end_bit}
-use Rattle.model.specs.Chain.{onward}
-use Rattle.model.specs.Rules.{zone_block}
-use Rattle.fragment.specs.Reading.{id_at}
 use Rattle.chain.specs.declared.FreeWalk.{FreeWalk}
-use Rattle.chain.specs.FreeAhead.{free_ahead, AtFree, StandsFree, PassesTo}
+use Rattle.chain.specs.FreeAhead.{AtFree, StandsFree, PassesTo}
 use Rattle.chain.proofs.Ahead.{free_walk, closes_here, advances_here, passes_none, passes_more}
 use Rattle.chain.proofs.pass_to.Goals as goal
 use Rattle.chain.proofs.pass_to.Goals.{Else-d-disc_bit, In-loop-linked}

@@ -1,9 +1,9 @@
 -- From the last whole word down: k has the column sums of the words passed.
-use Prim.Native.Nat.{ℕ, ◌≤◌, ◌<◌, ◌%◌}
-use mathlib.Core.Path.{◌≡◌, ◌∙◌}
-use lib.ListN.{length, get_or}
+use Prim.Native.Nat.{ℕ, ◌<◌}
+use mathlib.Core.Path.{◌∙◌}
+use lib.ListN.{get_or}
 use borrow.Author.Rules.{rules}
-use Rattle.checks.proofs.Sums.{Summed, summed_start, summed_turn, column_end, column_short}
+use Rattle.checks.proofs.Sums.{summed_start, summed_turn, column_end, column_short}
 use Rattle.checks.proofs.column_check.Goals as goal
 
 pub returns-then-i-eq0 : goal.returns-then-i-eq0

@@ -1,9 +1,8 @@
 -- From the last whole word down: k has the column sums of the words passed.
-use Prim.Native.Nat.{ℕ, ◌≤◌, ◌<◌, ◌%◌}
-use mathlib.Core.Path.{◌≡◌, ◌∙◌}
-use lib.ListN.{length, get_or}
-use borrow.Author.Rules.{rules}
-use Rattle.checks.proofs.Sums.{Summed, summed_start, summed_turn, column_end, column_short}
+use Prim.Native.Nat.{◌≤◌, ◌%◌}
+use mathlib.Core.Path.{◌≡◌}
+use lib.ListN.{length}
+use Rattle.checks.proofs.Sums.{Summed}
 use Rattle.checks.proofs.column_check.Given as goal
 
 abbrev pub invariant-loop-i : goal.invariant-loop-i

@@ -1,10 +1,8 @@
 -- From `from` up: t is what the sum from `from` on has over that from i on.
-use Prim.Native.Nat.{◌+◌, ◌-◌, ◌*◌, ◌%◌, ◌^◌, ◌≤◌}
 use mathlib.Core.Path.{◌≡◌, ◌∙◌}
 use native.Mathlib.Omega.{arith}
 use borrow.Author.Rules.{rules}
 use Rattle.bits.proofs.Words.{word_bytes}
-use Rattle.checks.specs.Sums.{sum_from}
 use Rattle.checks.proofs.Totals.{sum_turn}
 use Rattle.checks.proofs.word_sum.Goals as goal
 

@@ -1,12 +1,12 @@
 -- From the last whole word down: t is the sum of the words passed, but for carries.
-use Prim.Native.Nat.{ℕ, ◌+◌, ◌^◌, ◌≤◌, ◌<◌, ◌%◌}
+use Prim.Native.Nat.{ℕ, ◌+◌, ◌<◌}
 use mathlib.Core.Path.{◌≡◌, ◌∙◌}
-use lib.ListN.{length, get_or}
+use lib.ListN.{get_or}
 use native.Mathlib.Omega.{arith}
 use borrow.Author.Rules.{rules}
 use Rattle.bits.proofs.Words.{word_bytes}
 use Rattle.checks.specs.Sums.{sum_from}
-use Rattle.checks.proofs.Carries.{Carried, carry_more}
+use Rattle.checks.proofs.Carries.{carry_more}
 use Rattle.checks.proofs.Totals.{word_at, check_start, check_end, check_short}
 use Rattle.checks.proofs.zone_check.Goals as goal
 

@@ -1,13 +1,9 @@
 -- From the last whole word down: t is the sum of the words passed, but for carries.
-use Prim.Native.Nat.{ℕ, ◌+◌, ◌^◌, ◌≤◌, ◌<◌, ◌%◌}
-use mathlib.Core.Path.{◌≡◌, ◌∙◌}
-use lib.ListN.{length, get_or}
-use native.Mathlib.Omega.{arith}
-use borrow.Author.Rules.{rules}
-use Rattle.bits.proofs.Words.{word_bytes}
+use Prim.Native.Nat.{◌^◌, ◌≤◌, ◌<◌, ◌%◌}
+use mathlib.Core.Path.{◌≡◌}
+use lib.ListN.{length}
 use Rattle.checks.specs.Sums.{sum_from}
-use Rattle.checks.proofs.Carries.{Carried, carry_more}
-use Rattle.checks.proofs.Totals.{word_at, check_start, check_end, check_short}
+use Rattle.checks.proofs.Carries.{Carried}
 use Rattle.checks.proofs.zone_check.Given as goal
 
 abbrev pub invariant-loop-i : goal.invariant-loop-i

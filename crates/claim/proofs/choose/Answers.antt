@@ -7,7 +7,6 @@ use Rattle.model.specs.Shown.{pieces_on}
 use Rattle.claim.specs.Unused.{IdChosen}
 use Rattle.claim.proofs.HoleFound.{no_hole, hole_at}
 use Rattle.claim.proofs.Choosing.{none_chosen, FirstFound, start_inside, start_on_disc, several_taken, id_low, list_chosen}
-use borrow.Author.Rules.{rules}
 use Rattle.claim.proofs.choose.Goals as goal
 use Rattle.claim.proofs.choose.Goals.{After-id_for-id, In-At}
 

@@ -2,7 +2,6 @@
 use mathlib.Core.Path.{sym, ◌∙◌}
 use Rattle.map.proofs.Accepts.{accepts}
 use Rattle.claim.proofs.Answers.{check_refuses}
-use borrow.Author.Rules.{rules}
 use Rattle.claim.proofs.claim.Goals as goal
 
 pub claim_checked-requires : goal.claim_checked-requires

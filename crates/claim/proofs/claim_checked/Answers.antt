@@ -1,12 +1,11 @@
 -- The answers of `Answers`: 9, 12, or what a map gives that edits work on.
 use mathlib.Core.Path.{sym, ◌∙◌}
 use lib.Dec.{ltb}
-use borrow.Author.Tests.{ltb-true, not-true, not-false}
+use borrow.Author.Tests.{ltb-true}
 use Rattle.bits.proofs.Tests.{both}
 use Rattle.bits.proofs.Bytes.{all_bytes}
 use Rattle.edits.proofs.EditableMap.{map_editable}
 use Rattle.claim.proofs.Answers.{touching_refuses, unfit_refused}
-use borrow.Author.Rules.{rules}
 use Rattle.claim.proofs.claim_checked.Goals as goal
 
 pub returns-then-not-both : goal.returns-then-not-both

@@ -1,7 +1,6 @@
 -- The answers of `Answers`: a refusal, or the list that the place of it gives.
 use native.Mathlib.Omega.{arith}
 use Rattle.claim.proofs.Answers.{ClaimChosen, refusal_claims, pairs_in_law, list_fits, list_claims}
-use borrow.Author.Rules.{rules}
 use Rattle.claim.proofs.claim_room.Goals as goal
 use Rattle.claim.proofs.claim_room.Goals.{After-choose}
 

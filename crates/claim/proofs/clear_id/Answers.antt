@@ -2,7 +2,6 @@
 use mathlib.Core.Path.{sym, ◌∙◌}
 use native.Mathlib.Omega.{arith}
 use Rattle.claim.proofs.Cleared.{in_window}
-use borrow.Author.Rules.{rules}
 use Rattle.claim.proofs.clear_id.Goals as goal
 
 pub overflow_sub-id : goal.overflow_sub-id

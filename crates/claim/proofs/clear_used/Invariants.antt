@@ -1,13 +1,10 @@
 -- A bit so far, with what the id has of the lines that remain, is the bit at the start with what it has in all zones. The measure is how many lines
 -- remain.
-use mathlib.Core.Path.{◌≡◌, refl}
-use native.Mathlib.Omega.{arith}
+use mathlib.Core.Path.{◌≡◌}
 use lib.ListN.{length}
 use Rattle.walk.specs.Remaining.{remaining, Stands}
 use Rattle.walk.specs.HeldBy.{held_from}
-use Rattle.walk.proofs.Remains.{fewer}
-use Rattle.claim.proofs.Cleared.{ClearedSoFar, none_cleared, line_cleared, all_cleared}
-use borrow.Author.Rules.{rules}
+use Rattle.claim.proofs.Cleared.{ClearedSoFar}
 use Rattle.claim.proofs.clear_used.Given as goal
 
 abbrev pub invariant-loop-w : goal.invariant-loop-w

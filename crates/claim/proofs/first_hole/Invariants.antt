@@ -1,19 +1,12 @@
 -- The first hole among the lines that remain of the zone is the zone's. The measure is how many lines remain.
 use Prim.Native.Nat.{◌+◌}
-use mathlib.Core.Path.{◌≡◌, sym, ap, ◌∙◌}
-use native.Mathlib.Omega.{arith}
+use mathlib.Core.Path.{◌≡◌}
 use lib.ListN.{length}
 use Rattle.model.specs.Shown.{pieces_on}
 use Rattle.edits.specs.Holes.{holes_in}
 use Rattle.edits.specs.Judge.{first_hole}
 use Rattle.walk.specs.Remaining.{remaining, Stands}
-use Rattle.walk.proofs.ZonesRead.{reads_from}
-use Rattle.walk.proofs.Remains.{fewer}
 use Rattle.walk.specs.HeldBy.{held_lines}
-use Rattle.walk.proofs.HeldLines.{held_none}
-use Rattle.claim.specs.Hole.{hole_of}
-use Rattle.claim.proofs.HoleFound.{hole_taken, hole_passed, zone_starts}
-use borrow.Author.Rules.{rules}
 use Rattle.claim.proofs.first_hole.Given as goal
 
 abbrev pub invariant-loop-w : goal.invariant-loop-w

@@ -1,6 +1,5 @@
 -- The nearest hole that is long enough, or what the survey found of all.
 use Rattle.claim.proofs.HoleFound.{nearest_taken, too_few_taken, longest_taken}
-use borrow.Author.Rules.{rules}
 use Rattle.claim.proofs.first_taken.Goals as goal
 
 pub returns-then-all-need : goal.returns-then-all-need

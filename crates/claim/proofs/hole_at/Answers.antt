@@ -11,7 +11,6 @@ use Rattle.edits.specs.Holes.{holes_of}
 use Rattle.edits.specs.Judge.{first_hole}
 use Rattle.claim.specs.Hole.{hole_of}
 use Rattle.claim.proofs.HoleFound.{no_hole, hole_at, beside_turn}
-use borrow.Author.Rules.{rules}
 use Rattle.claim.proofs.hole_at.Goals as goal
 
 pub hole_if-requires-in-None : goal.hole_if-requires-in-None

@@ -1,9 +1,7 @@
 -- What is left to look for, window by window (`ZoneIds`). The measure is how many ids are left, and one of them is unused.
-use Prim.Native.Nat.{◌-◌}
 use native.Mathlib.Omega.{arith}
 use Rattle.claim.proofs.LowestFound.{ids_small}
-use Rattle.claim.proofs.ZoneIds.{zone_window, Looking, looking_starts, looking_ends, ids_left, looking_on}
-use borrow.Author.Rules.{rules}
+use Rattle.claim.proofs.ZoneIds.{zone_window, looking_starts, looking_ends, ids_left, looking_on}
 use Rattle.claim.proofs.id_for.Goals as goal
 
 pub overflow_mul-ids : goal.overflow_mul-ids

@@ -1,9 +1,6 @@
 -- What is left to look for, window by window (`ZoneIds`). The measure is how many ids are left, and one of them is unused.
 use Prim.Native.Nat.{◌-◌}
-use native.Mathlib.Omega.{arith}
-use Rattle.claim.proofs.LowestFound.{ids_small}
-use Rattle.claim.proofs.ZoneIds.{zone_window, Looking, looking_starts, looking_ends, ids_left, looking_on}
-use borrow.Author.Rules.{rules}
+use Rattle.claim.proofs.ZoneIds.{Looking}
 use Rattle.claim.proofs.id_for.Given as goal
 
 abbrev pub invariant-loop-to : goal.invariant-loop-to

@@ -4,7 +4,6 @@ use mathlib.Core.List.{[], ◌∷◌}
 use native.Mathlib.Omega.{arith}
 use Rattle.model.specs.Chain.{pair}
 use Rattle.claim.proofs.TakenListed.{few_entries, pairs_listed}
-use borrow.Author.Rules.{rules}
 use Rattle.claim.proofs.list_one.Goals as goal
 
 pub returns-then-list-lt2 : goal.returns-then-list-lt2

@@ -1,7 +1,6 @@
 -- By the test: what is taken of one hole, or of several.
 use Rattle.holes.specs.Passes.{holes_on}
 use Rattle.claim.proofs.TakenListed.{one_listed, several_listed}
-use borrow.Author.Rules.{rules}
 use Rattle.claim.proofs.list_taken.Goals as goal
 
 pub returns-then-need-len : goal.returns-then-need-len

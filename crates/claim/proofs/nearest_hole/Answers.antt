@@ -1,15 +1,14 @@
 -- The first hole of the zones that are at least as far away as d is that of all. The measure is how many distances are left.
-use Prim.Native.Nat.{ℕ, ◌-◌}
-use mathlib.Core.Path.{◌≡◌, sym, ap, ◌∙◌}
+use Prim.Native.Nat.{ℕ}
+use mathlib.Core.Path.{sym, ap, ◌∙◌}
 use native.Mathlib.Omega.{arith}
 use native.Mathlib.Nat.{sub-zero}
 use Rattle.model.specs.Shown.{pieces_on}
 use Rattle.edits.specs.Near.{zones_from}
 use Rattle.edits.specs.Holes.{holes_of}
-use Rattle.edits.specs.Judge.{first_hole, holes_near}
+use Rattle.edits.specs.Judge.{first_hole}
 use Rattle.claim.specs.Hole.{hole_of}
 use Rattle.claim.proofs.HoleFound.{no_hole, hole_at, distance_turn, none_further}
-use borrow.Author.Rules.{rules}
 use Rattle.claim.proofs.nearest_hole.Goals as goal
 
 pub loop-d-init : goal.loop-d-init

@@ -3,7 +3,6 @@ use mathlib.Core.Path.{ap, ◌∙◌}
 use Prim.Native.Nat.{ℕ, ◌+◌, ◌*◌, ◌/◌, max}
 use native.Mathlib.Omega.{arith}
 use Rattle.claim.proofs.NeedBits.{cluster_small, cluster_long, clusters_small, bits_small, need_is}
-use borrow.Author.Rules.{rules}
 use Rattle.claim.proofs.need_of.Goals as goal
 
 pub overflow_mul-cluster : goal.overflow_mul-cluster

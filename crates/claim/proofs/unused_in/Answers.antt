@@ -4,7 +4,6 @@ use mathlib.Core.Path.{refl}
 use native.Mathlib.Omega.{arith}
 use lib.ListN.{length-replicate}
 use Rattle.claim.proofs.LowestFound.{unused_found}
-use borrow.Author.Rules.{rules}
 use Rattle.claim.proofs.unused_in.Goals as goal
 
 pub returns : goal.returns

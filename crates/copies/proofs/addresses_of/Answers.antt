@@ -7,7 +7,6 @@ use Rattle.geometry.specs.declared.Geometry.{Geometry}
 use Rattle.geometry.specs.Accepted.{AcceptedGeometry}
 use Rattle.geometry.specs.Places.{zone_from}
 use Rattle.geometry.proofs.DiscBits.{zone_bits_small, map_small}
-use borrow.Author.Rules.{rules}
 use Rattle.copies.proofs.addresses_of.Goals as goal
 
 disc_small : (g : Geometry) → AcceptedGeometry g → (d : ℕ) → d ≡ zone_from g (g.zones / 2) → d * g.unit ≤ 2190433320960

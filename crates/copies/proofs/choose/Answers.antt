@@ -1,5 +1,4 @@
 -- The first if the check accepts it, else the second, else nothing.
-use borrow.Author.Rules.{rules}
 use Rattle.copies.proofs.Answers.{as_number, first_chosen, second_chosen, none_chosen}
 use Rattle.copies.proofs.choose.Goals as goal
 

@@ -1,6 +1,5 @@
 -- The check's refusal, or where an accepted map's copies lie.
 use Rattle.copies.proofs.Answers.{numbers_accepted, map_not_read, copies_told}
-use borrow.Author.Rules.{rules}
 use Rattle.copies.proofs.copy_addresses.Goals as goal
 
 pub addresses_of-requires : goal.addresses_of-requires

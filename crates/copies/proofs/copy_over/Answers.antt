@@ -1,6 +1,5 @@
 -- The check's refusal, 1 for another length, or the source in the place of all that the target held.
 use Rattle.copies.proofs.Answers.{source_refused, other_length, copy_done}
-use borrow.Author.Rules.{rules}
 use Rattle.copies.proofs.copy_over.Goals as goal
 
 pub returns-then-target-source : goal.returns-then-target-source

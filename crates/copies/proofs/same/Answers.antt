@@ -1,12 +1,8 @@
 -- What is found before an index and what is left from there on together give the answer, at each turn the same.
 use mathlib.Core.Path.{◌≡◌, refl, sym, ◌∙◌}
-use mathlib.Core.Bool.{◌&&◌}
-use Prim.Native.Nat.{suc, ◌+◌, ◌-◌, ◌≤◌}
+use Prim.Native.Nat.{suc, ◌+◌}
 use native.Mathlib.Omega.{arith}
-use lib.Dec.{eqb}
-use lib.ListN.{length}
-use Rattle.copies.specs.Copies.{same_bytes}
-use Rattle.copies.proofs.SameBytes.{other_length, same_from, from_turn, from_end}
+use Rattle.copies.proofs.SameBytes.{other_length, from_turn, from_end}
 use borrow.Author.Rules.{rules}
 use Rattle.copies.proofs.same.Goals as goal
 

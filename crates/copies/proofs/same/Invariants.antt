@@ -1,13 +1,11 @@
 -- What is found before an index and what is left from there on together give the answer, at each turn the same.
-use mathlib.Core.Path.{◌≡◌, refl, sym, ◌∙◌}
+use mathlib.Core.Path.{◌≡◌}
 use mathlib.Core.Bool.{◌&&◌}
-use Prim.Native.Nat.{suc, ◌+◌, ◌-◌, ◌≤◌}
-use native.Mathlib.Omega.{arith}
+use Prim.Native.Nat.{◌-◌, ◌≤◌}
 use lib.Dec.{eqb}
 use lib.ListN.{length}
 use Rattle.copies.specs.Copies.{same_bytes}
-use Rattle.copies.proofs.SameBytes.{other_length, same_from, from_turn, from_end}
-use borrow.Author.Rules.{rules}
+use Rattle.copies.proofs.SameBytes.{same_from}
 use Rattle.copies.proofs.same.Given as goal
 
 abbrev pub invariant-loop-i : goal.invariant-loop-i

@@ -3,7 +3,6 @@ use Prim.Native.Nat.{◌*◌, ◌^◌, ◌≤◌}
 use native.Mathlib.Omega.{arith}
 use lib.Count.{trailing_le}
 use lib.Pow.{pow_mono}
-use borrow.Author.Rules.{rules}
 use Rattle.formatted.proofs.Units.{unit_within}
 use Rattle.format.proofs.Units.{record_is}
 use Rattle.format.proofs.blank_record.Goals as goal

@@ -1,7 +1,6 @@
 -- The two numbers that are compared are the definition's.
 use mathlib.Core.Path.{ap₂}
 use lib.Dec.{leb}
-use borrow.Author.Rules.{rules}
 use Rattle.format.proofs.both_fit.Goals as goal
 
 pub returns : goal.returns

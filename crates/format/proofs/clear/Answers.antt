@@ -1,11 +1,10 @@
 -- The bytes before i are 0, the others as they were.
-use mathlib.Core.Path.{◌≡◌, refl, ap, ◌∙◌}
+use mathlib.Core.Path.{refl, ap, ◌∙◌}
 use mathlib.Core.List.{List}
-use Prim.Native.Nat.{ℕ, ◌-◌, ◌≤◌}
+use Prim.Native.Nat.{ℕ}
 use native.Mathlib.Omega.{arith}
-use lib.ListN.{length, set, length-set}
-use borrow.Author.Rules.{rules}
-use Rattle.format.proofs.Cleared.{zeros_to, zero_more, all_zeros}
+use lib.ListN.{set, length-set}
+use Rattle.format.proofs.Cleared.{zero_more, all_zeros}
 use Rattle.format.proofs.clear.Goals as goal
 
 pub loop-i-init : goal.loop-i-init

@@ -1,11 +1,8 @@
 -- The bytes before i are 0, the others as they were.
-use mathlib.Core.Path.{◌≡◌, refl, ap, ◌∙◌}
-use mathlib.Core.List.{List}
-use Prim.Native.Nat.{ℕ, ◌-◌, ◌≤◌}
-use native.Mathlib.Omega.{arith}
-use lib.ListN.{length, set, length-set}
-use borrow.Author.Rules.{rules}
-use Rattle.format.proofs.Cleared.{zeros_to, zero_more, all_zeros}
+use mathlib.Core.Path.{◌≡◌}
+use Prim.Native.Nat.{◌-◌, ◌≤◌}
+use lib.ListN.{length}
+use Rattle.format.proofs.Cleared.{zeros_to}
 use Rattle.format.proofs.clear.Given as goal
 
 abbrev pub invariant-loop-i : goal.invariant-loop-i

@@ -1,6 +1,5 @@
 -- The bytes of two maps are few, and so are the bits that they need.
 use native.Mathlib.Omega.{arith}
-use borrow.Author.Rules.{rules}
 use Rattle.geometry.proofs.DiscBits.{map_small}
 use Rattle.format.proofs.Places.{copies_small}
 use Rattle.format.proofs.copies_need.Goals as goal

@@ -1,6 +1,5 @@
 -- The map's bytes become 0, the record is written, and the zones are drawn (`MapFormatted`).
 use Rattle.format.proofs.MapFormatted.{record_asks, zones_ask, map_drawn}
-use borrow.Author.Rules.{rules}
 use Rattle.format.proofs.draw_map.Goals as goal
 
 pub write_record-requires : goal.write_record-requires

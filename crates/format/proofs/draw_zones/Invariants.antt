@@ -1,9 +1,7 @@
 -- The zones below z are drawn (`ZonesDrawn`). The measure is what is left of the zones.
 use Prim.Native.Nat.{◌-◌}
-use Rattle.edits.proofs.WrittenBelow.{WrittenBelow, written_starts}
+use Rattle.edits.proofs.WrittenBelow.{WrittenBelow}
 use Rattle.format.specs.Zones.{zones_formatted}
-use Rattle.format.proofs.ZonesDrawn.{numbers, next_blank, drawing_turn, drawing_ends}
-use borrow.Author.Rules.{rules}
 use Rattle.format.proofs.draw_zones.Given as goal
 
 abbrev pub invariant-loop-z : goal.invariant-loop-z

@@ -1,7 +1,6 @@
 -- The plan's refusal, 1 where the buffer's length is wrong, or the map drawn (`MapFormatted`).
 use native.Mathlib.Omega.{arith}
 use Rattle.format.proofs.MapFormatted.{format_refused, disc_blank, few_bytes, wrong_length, formatted}
-use borrow.Author.Rules.{rules}
 use Rattle.format.proofs.format.Goals as goal
 
 pub overflow_mul-g : goal.overflow_mul-g

@@ -2,7 +2,6 @@
 use mathlib.Core.Path.{refl}
 use native.Mathlib.Omega.{arith}
 use Rattle.format.proofs.MapFormatted.{length_refused, few_bytes, length_told_law}
-use borrow.Author.Rules.{rules}
 use Rattle.format.proofs.format_length.Goals as goal
 
 pub overflow_mul-result : goal.overflow_mul-result

@@ -1,5 +1,4 @@
 -- The room as it is defined, its parts found one by one.
-use borrow.Author.Rules.{rules}
 use Rattle.format.proofs.Places.{room_is}
 use Rattle.format.proofs.middle_room.Goals as goal
 

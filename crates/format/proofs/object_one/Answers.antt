@@ -1,9 +1,7 @@
 -- The start by the test, and from there to the map's end.
 use mathlib.Core.Path.{◌≡◌, ap₂, ◌∙◌}
-use mathlib.Core.Logic.{⊎_elim}
 use Prim.Native.Nat.{◌-◌}
 use native.Mathlib.Omega.{arith}
-use borrow.Author.Rules.{rules}
 use Rattle.geometry.proofs.DiscBits.{disc_bits_small}
 use Rattle.formatted.specs.Drawn.{object_one_from, object_one}
 use Rattle.format.proofs.Places.{last_is, reaches_back, starts_over, one_in_map, piece_is}
@@ -17,7 +15,7 @@ starts c =
     let from = last_is g c.first_disc_bit-last.result.0 c.larger-from.result c.args.two c.requires.1 c.first_disc_bit-last.ensures c.larger-from.ensures in
     let gap = c.minus.ensures ∙ ap₂ ◌-◌ c.overhang_from-over.ensures from in
     elim c.if-minus-shortest_fragment.branch [
-      then-minus-shortest_fragment w ↦ reaches_back g c.if-minus-shortest_fragment.start c.minus.result c.shortest_fragment.result gap c.shortest_fragment.ensures w.if-minus-shortest_fragment.true (w.start-is ∙ from)
+      | then-minus-shortest_fragment w ↦ reaches_back g c.if-minus-shortest_fragment.start c.minus.result c.shortest_fragment.result gap c.shortest_fragment.ensures w.if-minus-shortest_fragment.true (w.start-is ∙ from)
       | else-minus-shortest_fragment w ↦ starts_over g c.if-minus-shortest_fragment.start c.minus.result c.shortest_fragment.result gap c.shortest_fragment.ensures w.if-minus-shortest_fragment.false (w.start-is ∙ c.overhang_from-over.ensures)
     ]
 

@@ -1,6 +1,5 @@
 -- The start and the length as they are defined.
 use mathlib.Core.Path.{ap₂, ◌∙◌}
-use borrow.Author.Rules.{rules}
 use Rattle.split.specs.Taken.{cut_bits}
 use Rattle.formatted.specs.Drawn.{object_two}
 use Rattle.format.proofs.Places.{piece_is}

@@ -1,6 +1,5 @@
 -- By the test, as the definition: the disc's end is before the map's, or not.
 use native.Mathlib.Omega.{arith}
-use borrow.Author.Rules.{rules}
 use Rattle.format.proofs.Places.{shortest_in_map, no_overhang, overhang_is}
 use Rattle.format.proofs.overhang_from.Goals as goal
 

@@ -2,7 +2,6 @@
 use mathlib.Core.Path.{ap, ◌∙◌}
 use mathlib.Core.Bool.{Bool, cond}
 use native.Mathlib.Omega.{arith}
-use borrow.Author.Rules.{rules}
 use Rattle.format.proofs.PiecesIn.{pieces_in}
 use Rattle.format.proofs.pieces_in.Goals as goal
 
@@ -14,6 +13,9 @@ zone_of-requires-2 c = (c.requires.0, c.requires.2)
 
 pub returns : goal.returns
 returns c =
-    let a = c.args in record { few = omega (arith, c.one-n.ensures.1, c.one.ensures.1); pieces = pieces_in a.g a.z a.two a.rest a.pieces.now c.put_piece.new.pieces c.put_piece-2.new.pieces c.zone_of.result c.zone_of-2.result c.one-n.result c.one.result
+    let a = c.args in record {
+      few = omega (arith, c.one-n.ensures.1, c.one.ensures.1);
+      pieces = pieces_in a.g a.z a.two a.rest a.pieces.now c.put_piece.new.pieces c.put_piece-2.new.pieces c.zone_of.result c.zone_of-2.result c.one-n.result c.one.result
           c.requires.3 c.zone_of.ensures c.zone_of-2.ensures c.one-n.ensures.0 (c.one.ensures.0 ∙ ap (λ (t : Bool). cond t 1 0) c.both.ensures)
-          c.put_piece.ensures c.put_piece-2.ensures }
+          c.put_piece.ensures c.put_piece-2.ensures;
+    }

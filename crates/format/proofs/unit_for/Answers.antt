@@ -1,9 +1,6 @@
 -- The loop goes through the table: from row i on the unit that is found is the one of the whole table.
 use mathlib.Core.Path.{◌≡◌, refl, sym, ap, ◌∙◌}
-use Prim.Native.Nat.{◌-◌, ◌≤◌}
 use native.Mathlib.Omega.{arith}
-use borrow.Author.Rules.{rules}
-use Rattle.formatted.specs.Blank.{unit_for}
 use Rattle.format.proofs.Units.{unit_from, row_small, row_serves, row_passed}
 use Rattle.format.proofs.unit_for.Goals as goal
 

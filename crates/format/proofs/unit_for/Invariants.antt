@@ -1,10 +1,8 @@
 -- The loop goes through the table: from row i on the unit that is found is the one of the whole table.
-use mathlib.Core.Path.{◌≡◌, refl, sym, ap, ◌∙◌}
+use mathlib.Core.Path.{◌≡◌}
 use Prim.Native.Nat.{◌-◌, ◌≤◌}
-use native.Mathlib.Omega.{arith}
-use borrow.Author.Rules.{rules}
 use Rattle.formatted.specs.Blank.{unit_for}
-use Rattle.format.proofs.Units.{unit_from, row_small, row_serves, row_passed}
+use Rattle.format.proofs.Units.{unit_from}
 use Rattle.format.proofs.unit_for.Given as goal
 
 abbrev pub invariant-loop-i : goal.invariant-loop-i

@@ -1,6 +1,5 @@
 -- The quotient is the definition's; it is at most the number that is covered.
 use mathlib.Core.Path.{refl}
-use borrow.Author.Rules.{rules}
 use Rattle.format.proofs.Units.{up_to_within}
 use Rattle.format.proofs.up_to.Goals as goal
 

@@ -1,7 +1,6 @@
 -- The bytes are small enough, and on a list of zeros they make the map that is wanted.
 use native.Mathlib.Omega.{arith}
 use lib.ListN.{length-set}
-use borrow.Author.Rules.{rules}
 use Rattle.format.proofs.RecordWritten.{id_small, zones_small, record_put_law}
 use Rattle.format.proofs.write_record.Goals as goal
 

@@ -1,6 +1,5 @@
 -- A link of 0 leads nowhere, any other counts from its place.
 use borrow.Author.Tests.{eq-eqb, ne_eqb}
-use borrow.Author.Rules.{rules}
 use Rattle.fragment.proofs.link_from.Goals as goal
 
 pub returns-then-link-eq0 : goal.returns-then-link-eq0

@@ -1,6 +1,5 @@
 -- The id leads on where the chain led here; elsewhere the chain leads on as before.
 use borrow.Author.Tests.{eq-eqb, ne_eqb}
-use borrow.Author.Rules.{rules}
 use Rattle.fragment.proofs.next_after.Goals as goal
 
 pub returns-then-at-next : goal.returns-then-at-next

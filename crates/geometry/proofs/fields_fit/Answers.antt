@@ -1,5 +1,4 @@
 -- The tests are the definition's, joined by `both`.
-use borrow.Author.Rules.{rules}
 use Rattle.geometry.proofs.fields_fit.Goals as goal
 
 pub returns : goal.returns

@@ -1,7 +1,6 @@
 -- Each number is the definition's, from the calls' results; the rounded m stays below idlen + 1 + k.
 use native.Mathlib.Omega.{arith}
 use native.Mathlib.Nat.{div-mul-le_self, div-le_self, lt_of_le_of_lt}
-use borrow.Author.Rules.{rules}
 use Rattle.geometry.proofs.geometry_from.Goals as goal
 
 pub returns : goal.returns

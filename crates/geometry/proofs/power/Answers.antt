@@ -3,7 +3,6 @@ use Prim.Native.Nat.{◌^◌, ◌<◌, ◌≤◌}
 use native.Mathlib.Omega.{arith}
 use lib.Pow.{pow_mono, pow_pos}
 use Rattle.bits.proofs.Words.{one_shifted}
-use borrow.Author.Rules.{rules}
 use Rattle.geometry.proofs.power.Goals as goal
 
 pub returns : goal.returns

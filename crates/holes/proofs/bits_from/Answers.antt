@@ -1,17 +1,13 @@
 -- The bits so far and those of the holes ahead are those of all, each time of the holes that are long enough. The measure is how many holes
 -- lie ahead.
-use mathlib.Core.Path.{◌≡◌, ap}
-use mathlib.Core.Logic.{⊎_elim}
-use Prim.Native.Nat.{◌+◌}
+use mathlib.Core.Path.{ap}
 use native.Mathlib.Omega.{arith}
 use lib.ListN.{length}
 use Rattle.walk.proofs.ZonesRead.{reads_from}
-use Rattle.chain.specs.FreeAhead.{StandsFree, free_ahead}
 use Rattle.chain.proofs.Ahead.{none_ahead}
 use Rattle.split.specs.Threshold.{at_least}
 use Rattle.holes.specs.Passes.{holes_on}
 use Rattle.holes.proofs.HoleBits.{all_ahead, total_small, at_least_some, long_enough, too_short}
-use borrow.Author.Rules.{rules}
 use Rattle.holes.proofs.bits_from.Goals as goal
 use Rattle.holes.proofs.bits_from.Goals.{then-t-len, else-t-len}
 
@@ -38,7 +34,7 @@ loop-w-preserved c =
     let passed = c.next-s.ensures.passed in (
       c.next-s.ensures.stands,
       elim c.if-t-len.branch [
-        then-t-len w ↦ omega (arith, c.loop-w.invariant.1, long_enough t passed w.if-t-len.true)
+        | then-t-len w ↦ omega (arith, c.loop-w.invariant.1, long_enough t passed w.if-t-len.true)
         | else-t-len w ↦ omega (arith, c.loop-w.invariant.1, too_short t passed w.if-t-len.false)
       ],
     )

@@ -1,17 +1,11 @@
 -- The bits so far and those of the holes ahead are those of all, each time of the holes that are long enough. The measure is how many holes
 -- lie ahead.
-use mathlib.Core.Path.{◌≡◌, ap}
-use mathlib.Core.Logic.{⊎_elim}
+use mathlib.Core.Path.{◌≡◌}
 use Prim.Native.Nat.{◌+◌}
-use native.Mathlib.Omega.{arith}
 use lib.ListN.{length}
-use Rattle.walk.proofs.ZonesRead.{reads_from}
 use Rattle.chain.specs.FreeAhead.{StandsFree, free_ahead}
-use Rattle.chain.proofs.Ahead.{none_ahead}
 use Rattle.split.specs.Threshold.{at_least}
 use Rattle.holes.specs.Passes.{holes_on}
-use Rattle.holes.proofs.HoleBits.{all_ahead, total_small, at_least_some, long_enough, too_short}
-use borrow.Author.Rules.{rules}
 use Rattle.holes.proofs.bits_from.Given as goal
 
 abbrev pub invariant-loop-w : goal.invariant-loop-w

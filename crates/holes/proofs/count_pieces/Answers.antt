@@ -1,20 +1,17 @@
 -- The count so far and that of what the holes ahead give with the rest that is left are together that of all. The measure is how many
 -- holes lie ahead.
-use mathlib.Core.Path.{◌≡◌, ap}
+use mathlib.Core.Path.{ap}
 use mathlib.Core.List.{List}
-use Prim.Native.Nat.{◌+◌, ◌<◌}
 use native.Mathlib.Omega.{arith}
 use lib.ListN.{length}
 use Rattle.model.specs.Chain.{Pair}
 use Rattle.walk.proofs.ZonesRead.{reads_from}
-use Rattle.chain.specs.FreeAhead.{StandsFree, free_ahead}
 use Rattle.chain.proofs.Ahead.{none_ahead}
 use Rattle.listing.proofs.Ascend.{held_few}
 use Rattle.split.specs.Threshold.{pick_from}
 use Rattle.holes.specs.Passes.{holes_on}
 use Rattle.holes.proofs.HoleBits.{all_ahead}
 use Rattle.holes.proofs.Picked.{pick_counted, picked_few}
-use borrow.Author.Rules.{rules}
 use Rattle.holes.proofs.count_pieces.Goals as goal
 
 pub loop-w-init : goal.loop-w-init
@@ -38,12 +35,11 @@ pub loop-w-smaller : goal.loop-w-smaller
 loop-w-smaller c = omega (arith, ap length c.next-s.ensures.passed)
 
 pub loop-w-preserved : goal.loop-w-preserved
-loop-w-preserved c =
-    (
-      c.next-s.ensures.stands,
-      omega (arith, c.gives-p.ensures.less, c.loop-w.invariant.1),
-      pick_counted c.gives-p.ensures c.next-s.ensures.passed c.loop-w.n c.loop-w.invariant.2 c.one.ensures.0,
-    )
+loop-w-preserved c = (
+  c.next-s.ensures.stands,
+  omega (arith, c.gives-p.ensures.less, c.loop-w.invariant.1),
+  pick_counted c.gives-p.ensures c.next-s.ensures.passed c.loop-w.n c.loop-w.invariant.2 c.one.ensures.0,
+)
 
 pub returns : goal.returns
 returns c =

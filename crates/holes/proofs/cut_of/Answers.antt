@@ -1,6 +1,5 @@
 -- The definition's choice, by the test.
 use Rattle.holes.proofs.Picked.{cut_whole, cut_part}
-use borrow.Author.Rules.{rules}
 use Rattle.holes.proofs.cut_of.Goals as goal
 
 pub returns-then-len-taken : goal.returns-then-len-taken

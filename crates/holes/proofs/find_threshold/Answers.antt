@@ -1,13 +1,12 @@
 -- Halving: the holes of at least `low` bits have enough, those of at least `high` bits, which have `above` together, do not. Where the two
 -- lengths are next to each other, the lower is the threshold. The measure is their distance.
 use mathlib.Core.Path.{◌≡◌, sym, ap, ◌∙◌}
-use Prim.Native.Nat.{ℕ, suc, ◌+◌, ◌-◌, ◌<◌, ◌≤◌}
+use Prim.Native.Nat.{ℕ, suc, ◌+◌, ◌-◌}
 use native.Mathlib.Numerals.{add-one}
 use native.Mathlib.Omega.{arith}
 use Rattle.split.specs.Threshold.{at_least}
 use Rattle.holes.specs.Passes.{holes_on}
 use Rattle.holes.proofs.HoleBits.{at_least_zero}
-use borrow.Author.Rules.{rules}
 use Rattle.holes.proofs.find_threshold.Goals as goal
 
 pub loop-low-init : goal.loop-low-init

@@ -1,7 +1,6 @@
 -- Longer than the threshold, shorter, or just as long: a lemma of `Picked` for each.
 use native.Mathlib.Omega.{arith}
 use Rattle.holes.proofs.Picked.{gives_whole, gives_none, gives_rest}
-use borrow.Author.Rules.{rules}
 use Rattle.holes.proofs.gives.Goals as goal
 
 pub returns-then-least-bits : goal.returns-then-least-bits

@@ -5,7 +5,6 @@ use Prim.Native.Nat.{ℕ}
 use lib.Dec.{leb}
 use Rattle.model.specs.Chain.{pair}
 use Rattle.holes.proofs.Picked.{side_late, side_early}
-use borrow.Author.Rules.{rules}
 use Rattle.holes.proofs.on_side.Goals as goal
 
 pub returns-then-late : goal.returns-then-late

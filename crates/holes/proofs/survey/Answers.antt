@@ -1,19 +1,14 @@
 -- The bits so far and those of the holes ahead are the bits of all, and the longest so far, held against the holes ahead, is the longest of all. The
 -- measure is how many holes lie ahead.
-use mathlib.Core.Path.{◌≡◌, sym, ap, ◌∙◌}
-use mathlib.Core.Logic.{⊎_elim}
-use Prim.Native.Nat.{◌+◌}
+use mathlib.Core.Path.{sym, ap, ◌∙◌}
 use native.Mathlib.Omega.{arith}
 use lib.ListN.{length}
 use Rattle.model.specs.Chain.{pair}
 use Rattle.walk.proofs.ZonesRead.{reads_from}
-use Rattle.chain.specs.FreeAhead.{StandsFree, free_ahead}
 use Rattle.chain.proofs.Ahead.{none_ahead}
 use Rattle.split.specs.Taken.{total}
 use Rattle.split.specs.Threshold.{first_longest}
-use Rattle.holes.specs.Passes.{holes_on}
 use Rattle.holes.proofs.HoleBits.{all_ahead, total_small, longer_later, longer_first, longest_turn}
-use borrow.Author.Rules.{rules}
 use Rattle.holes.proofs.survey.Goals as goal
 use Rattle.holes.proofs.survey.Goals.{then-len-s, else-len-s}
 
@@ -38,7 +33,7 @@ loop-w-preserved c =
       omega (arith, c.loop-w.invariant.1, ap total passed),
       longest_turn best passed c.loop-w.invariant.2
           (elim c.if-len-s.branch [
-            then-len-s w ↦ (λ i. pair (w.start-is i).0 (w.len-is i)) ∙ sym (longer_later best hole w.if-len-s.true)
+            | then-len-s w ↦ (λ i. pair (w.start-is i).0 (w.len-is i)) ∙ sym (longer_later best hole w.if-len-s.true)
             | else-len-s w ↦ (λ i. pair (w.start-is i).0 (w.len-is i)) ∙ sym (longer_first best hole w.if-len-s.false)
           ]),
     )

@@ -1,19 +1,13 @@
 -- The bits so far and those of the holes ahead are the bits of all, and the longest so far, held against the holes ahead, is the longest of all. The
 -- measure is how many holes lie ahead.
-use mathlib.Core.Path.{◌≡◌, sym, ap, ◌∙◌}
-use mathlib.Core.Logic.{⊎_elim}
+use mathlib.Core.Path.{◌≡◌}
 use Prim.Native.Nat.{◌+◌}
-use native.Mathlib.Omega.{arith}
 use lib.ListN.{length}
 use Rattle.model.specs.Chain.{pair}
-use Rattle.walk.proofs.ZonesRead.{reads_from}
 use Rattle.chain.specs.FreeAhead.{StandsFree, free_ahead}
-use Rattle.chain.proofs.Ahead.{none_ahead}
 use Rattle.split.specs.Taken.{total}
 use Rattle.split.specs.Threshold.{first_longest}
 use Rattle.holes.specs.Passes.{holes_on}
-use Rattle.holes.proofs.HoleBits.{all_ahead, total_small, longer_later, longer_first, longest_turn}
-use borrow.Author.Rules.{rules}
 use Rattle.holes.proofs.survey.Given as goal
 
 abbrev pub invariant-loop-w : goal.invariant-loop-w

@@ -1,23 +1,14 @@
 -- What is stored so far, with what the holes ahead give on the wanted side stored after it, is all of it stored. The holes ahead lie apart on the
 -- map, so each one's zone can be told. The measure is how many holes lie ahead.
-use mathlib.Core.Path.{ap, subst⁻¹}
-use mathlib.Core.List.{List}
 use Prim.Native.Nat.{◌<◌}
-use native.Mathlib.Omega.{arith}
 use lib.ListN.{length}
 use Rattle.geometry.specs.Places.{disc_bits}
-use Rattle.model.specs.Chain.{Pair}
 use Rattle.model.specs.Pieces.{keep}
-use Rattle.walk.proofs.ZonesRead.{reads_from}
 use Rattle.chain.specs.FreeAhead.{StandsFree, free_ahead}
-use Rattle.chain.proofs.Ahead.{none_ahead}
-use Rattle.listing.proofs.Ascend.{Apart, map_apart}
-use Rattle.listing.proofs.Stored.{StoredSoFar, stored_starts, stored_ends, piece_room, piece_stored}
+use Rattle.listing.proofs.Ascend.{Apart}
+use Rattle.listing.proofs.Stored.{StoredSoFar}
 use Rattle.split.specs.Threshold.{pick_from}
 use Rattle.holes.specs.Passes.{holes_on, on_side}
-use Rattle.holes.proofs.HoleBits.{all_ahead, apart_turn}
-use Rattle.holes.proofs.Picked.{side_turn}
-use borrow.Author.Rules.{rules}
 use Rattle.holes.proofs.write_pieces.Given as goal
 
 abbrev pub invariant-loop-w : goal.invariant-loop-w

@@ -4,12 +4,11 @@ use mathlib.Core.Path.{◌≡◌, ap, ◌∙◌}
 use native.Mathlib.Nat.{sub-zero}
 use native.Mathlib.Omega.{arith}
 use lib.ListN.{length}
-use Rattle.walk.specs.Remaining.{remaining, Stands}
+use Rattle.walk.specs.Remaining.{remaining}
 use Rattle.walk.proofs.Remains.{fewer}
 use Rattle.walk.specs.HeldBy.{held_lines, held_from}
 use Rattle.walk.proofs.HeldLines.{held_starts, held_none, line_counted}
 use Rattle.listing.proofs.Ascend.{held_few}
-use borrow.Author.Rules.{rules}
 use Rattle.listing.proofs.count_held.Goals as goal
 use Rattle.listing.proofs.count_held.Goals.{After-same-n}
 

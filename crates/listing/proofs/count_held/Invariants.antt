@@ -1,15 +1,9 @@
 -- The count so far and that of the lines that remain are together that of all zones. The measure is how many lines remain.
 use Prim.Native.Nat.{◌+◌}
-use mathlib.Core.Path.{◌≡◌, ap, ◌∙◌}
-use native.Mathlib.Nat.{sub-zero}
-use native.Mathlib.Omega.{arith}
+use mathlib.Core.Path.{◌≡◌}
 use lib.ListN.{length}
 use Rattle.walk.specs.Remaining.{remaining, Stands}
-use Rattle.walk.proofs.Remains.{fewer}
 use Rattle.walk.specs.HeldBy.{held_lines, held_from}
-use Rattle.walk.proofs.HeldLines.{held_starts, held_none, line_counted}
-use Rattle.listing.proofs.Ascend.{held_few}
-use borrow.Author.Rules.{rules}
 use Rattle.listing.proofs.count_held.Given as goal
 
 abbrev pub invariant-loop-w : goal.invariant-loop-w

@@ -2,7 +2,6 @@
 use native.Mathlib.Omega.{arith}
 use Rattle.map.specs.Accepted.{AcceptedMap}
 use Rattle.listing.proofs.Answers.{accepted_by, check_refuses, few_for_free, free_fits, free_listed}
-use borrow.Author.Rules.{rules}
 use Rattle.listing.proofs.free.Goals as goal
 use Rattle.listing.proofs.free.Goals.{In-Accepted}
 

@@ -1,6 +1,5 @@
 -- The check's refusal, or the accepted map's answer.
 use Rattle.listing.proofs.Answers.{accepted_by, check_refuses}
-use borrow.Author.Rules.{rules}
 use Rattle.listing.proofs.list.Goals as goal
 
 pub returns-in-Refused : goal.returns-in-Refused

@@ -2,7 +2,6 @@
 use mathlib.Core.Path.{sym, ◌∙◌}
 use native.Mathlib.Omega.{arith}
 use Rattle.listing.proofs.Answers.{start_refused, Object, start_inside, no_object, few_for_object, late_fits, early_fits, object_listed}
-use borrow.Author.Rules.{rules}
 use Rattle.listing.proofs.list_object.Goals as goal
 use Rattle.listing.proofs.list_object.Goals.{After-count_held-n}
 

@@ -2,7 +2,6 @@
 use native.Mathlib.Omega.{arith}
 use lib.ListN.{length, length-set}
 use Rattle.listing.proofs.Stored.{wanted_room, wanted_stored, unwanted_stored}
-use borrow.Author.Rules.{rules}
 use Rattle.listing.proofs.put_if.Goals as goal
 
 pub bounds-pairs-at : goal.bounds-pairs-at

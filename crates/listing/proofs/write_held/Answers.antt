@@ -1,16 +1,11 @@
 -- What is stored so far, with the pairs of the lines that remain stored after it, is all pairs stored. The measure is how many lines
 -- remain.
-use Prim.Native.Nat.{◌-◌}
-use lib.ListN.{length}
-use Rattle.walk.specs.Remaining.{remaining, Stands}
 use Rattle.walk.proofs.ZonesRead.{reads_from}
 use Rattle.walk.proofs.Remains.{fewer}
-use Rattle.walk.specs.HeldBy.{held_lines, held_from}
-use Rattle.listing.proofs.Stored.{StoredSoFar, stored_starts, stored_ends}
+use Rattle.listing.proofs.Stored.{stored_starts, stored_ends}
 use Rattle.walk.proofs.HeldLines.{held_starts, held_none}
 use Rattle.listing.proofs.LinesStored.{line_room, line_stored}
 use native.Mathlib.Omega.{arith}
-use borrow.Author.Rules.{rules}
 use Rattle.listing.proofs.write_held.Goals as goal
 
 pub loop-w-init : goal.loop-w-init

@@ -3,14 +3,8 @@
 use Prim.Native.Nat.{◌-◌}
 use lib.ListN.{length}
 use Rattle.walk.specs.Remaining.{remaining, Stands}
-use Rattle.walk.proofs.ZonesRead.{reads_from}
-use Rattle.walk.proofs.Remains.{fewer}
 use Rattle.walk.specs.HeldBy.{held_lines, held_from}
-use Rattle.listing.proofs.Stored.{StoredSoFar, stored_starts, stored_ends}
-use Rattle.walk.proofs.HeldLines.{held_starts, held_none}
-use Rattle.listing.proofs.LinesStored.{line_room, line_stored}
-use native.Mathlib.Omega.{arith}
-use borrow.Author.Rules.{rules}
+use Rattle.listing.proofs.Stored.{StoredSoFar}
 use Rattle.listing.proofs.write_held.Given as goal
 
 abbrev pub invariant-loop-w : goal.invariant-loop-w

@@ -1,6 +1,5 @@
 -- All parts of the check, and the table's numbers.
 use Rattle.map.proofs.Answers.{checks}
-use borrow.Author.Rules.{rules}
 use Rattle.map.proofs.check.Goals as goal
 
 pub returns : goal.returns

@@ -1,7 +1,6 @@
 -- The answers of `Answers`: the zone checks, then the cross checks.
 use mathlib.Core.Path.{sym, ap, ◌∙◌}
 use mathlib.Core.Bool.{Bool}
-use borrow.Author.Tests.{not-true, not-false}
 use Rattle.model.specs.Check.{blocks_of}
 use Rattle.map.specs.Checked.{check_bytes}
 use Rattle.map.proofs.Answers.{check_differs, cross_differs, cross_holds}

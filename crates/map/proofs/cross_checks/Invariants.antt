@@ -1,12 +1,8 @@
 -- From the last zone down, the sum so far is that of the blocks from zone z on. The measure is z.
-use Prim.Native.Nat.{ℕ, ◌-◌, ◌≤◌}
-use mathlib.Core.Path.{◌≡◌, ap, ◌∙◌}
-use native.Mathlib.Omega.{arith}
-use lib.Bits.{bit_xor}
+use Prim.Native.Nat.{◌≤◌}
+use mathlib.Core.Path.{◌≡◌}
 use Rattle.model.specs.Check.{cross_sum}
-use Rattle.model.proofs.ByPlace.{rest_from, rest_all, zone_end_law, block_length}
-use Rattle.map.proofs.ChecksByZone.{cross_turn, cross_none}
-use borrow.Author.Rules.{rules}
+use Rattle.model.proofs.ByPlace.{rest_from}
 use Rattle.map.proofs.cross_checks.Given as goal
 
 abbrev pub invariant-loop-z : goal.invariant-loop-z

@@ -1,9 +1,8 @@
 -- From zone z on the answer is that of all zones. The measure is what is left of the zones.
-use Prim.Native.Nat.{◌-◌, ◌≤◌}
-use mathlib.Core.Path.{◌≡◌, sym, ◌∙◌}
+use mathlib.Core.Path.{sym, ◌∙◌}
 use native.Mathlib.Omega.{arith}
 use Rattle.model.proofs.ByPlace.{zone_end_law, block_length}
-use Rattle.map.proofs.ZonesJudged.{answer_from, zones_turn, zones_stop, zones_end, zones_all}
+use Rattle.map.proofs.ZonesJudged.{zones_turn, zones_stop, zones_end, zones_all}
 use borrow.Author.Rules.{rules}
 use Rattle.map.proofs.judge_zones.Goals as goal
 

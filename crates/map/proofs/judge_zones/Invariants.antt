@@ -1,10 +1,7 @@
 -- From zone z on the answer is that of all zones. The measure is what is left of the zones.
 use Prim.Native.Nat.{◌-◌, ◌≤◌}
-use mathlib.Core.Path.{◌≡◌, sym, ◌∙◌}
-use native.Mathlib.Omega.{arith}
-use Rattle.model.proofs.ByPlace.{zone_end_law, block_length}
-use Rattle.map.proofs.ZonesJudged.{answer_from, zones_turn, zones_stop, zones_end, zones_all}
-use borrow.Author.Rules.{rules}
+use mathlib.Core.Path.{◌≡◌}
+use Rattle.map.proofs.ZonesJudged.{answer_from}
 use Rattle.map.proofs.judge_zones.Given as goal
 
 abbrev pub invariant-loop-z : goal.invariant-loop-z

@@ -1,14 +1,9 @@
 -- From zone z on the first zone check that differs is that of the whole map. The measure is what is left of the zones.
 use Prim.Native.Nat.{◌-◌, ◌≤◌}
-use mathlib.Core.Path.{◌≡◌, sym, ap, ◌∙◌}
-use native.Mathlib.Omega.{arith}
-use borrow.Author.Tests.{not-true, not-false}
+use mathlib.Core.Path.{◌≡◌}
 use Rattle.model.specs.Blocks.{blocks}
 use Rattle.model.specs.Check.{differing}
-use Rattle.map.specs.Checked.{first_differing}
-use Rattle.model.proofs.ByPlace.{rest_from, rest_all, zone_end_law, block_length}
-use Rattle.map.proofs.ChecksByZone.{checks_turn, checks_stop, checks_end}
-use borrow.Author.Rules.{rules}
+use Rattle.model.proofs.ByPlace.{rest_from}
 use Rattle.map.proofs.zone_checks.Given as goal
 
 abbrev pub invariant-loop-z : goal.invariant-loop-z

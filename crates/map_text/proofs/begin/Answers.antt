@@ -1,7 +1,6 @@
 -- By the two answers of the check.
 use mathlib.Core.Path.{sym, ◌∙◌}
 use Rattle.map_text.proofs.Begun.{begins_accepted, begins_refused, begins_lines}
-use borrow.Author.Rules.{rules}
 use Rattle.map_text.proofs.begin.Goals as goal
 
 pub from_zone-w-requires : goal.from_zone-w-requires

@@ -2,7 +2,6 @@
 use mathlib.Core.Path.{ap, ◌∙◌}
 use Rattle.map.specs.declared.Checked.TheVariants.{Refused}
 use Rattle.map_text.proofs.Begun.{too_long_law, not_too_long}
-use borrow.Author.Rules.{rules}
 use Rattle.map_text.proofs.check_input.Goals as goal
 
 pub returns-then-input-gt65536 : goal.returns-then-input-gt65536

@@ -1,11 +1,7 @@
 -- Line after line. The measure is how many remain.
-use native.Mathlib.Omega.{arith}
 use lib.ListN.{length}
 use Rattle.walk.specs.Remaining.{remaining}
-use Rattle.walk.proofs.Remains.{fewer}
-use Rattle.map_text.specs.Text.{line_text}
-use Rattle.map_text.proofs.Lines.{Filled, filled_starts, filled_kept, filled_turn, filled_full, filled_ends}
-use borrow.Author.Rules.{rules}
+use Rattle.map_text.proofs.Lines.{Filled}
 use Rattle.map_text.proofs.lines_part.Given as goal
 
 abbrev pub invariant-loop-w : goal.invariant-loop-w

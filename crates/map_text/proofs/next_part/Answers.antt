@@ -1,7 +1,6 @@
 -- By what is left.
 use Rattle.map_text.specs.Text.{refusal_text}
 use Rattle.map_text.proofs.Lines.{part_of, lines_ready, nothing_part, refusal_part}
-use borrow.Author.Rules.{rules}
 use Rattle.map_text.proofs.next_part.Goals as goal
 
 pub put_refusal-len-requires : goal.put_refusal-len-requires

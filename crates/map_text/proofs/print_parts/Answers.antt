@@ -1,5 +1,5 @@
 -- A part that is written comes after those before it.
-use Rattle.std.proofs.Common.{rules, ◌≡◌, length}
+use Rattle.std.proofs.Common.{rules}
 use Rattle.map_text.proofs.Written.{written_on}
 use Rattle.map_text.proofs.print_parts.Goals as goal
 

@@ -6,7 +6,6 @@ use lib.ListN.{length}
 use Rattle.map_text.specs.Text.{owner_text, pair_text}
 use Rattle.map_text.proofs.Pieces.{first_room, rest_room, puts_then}
 use Rattle.map_text.proofs.Short.{line_short}
-use borrow.Author.Rules.{rules}
 use Rattle.map_text.proofs.put_line.Goals as goal
 use Rattle.map_text.proofs.put_line.Goals.{Start}
 

@@ -2,7 +2,6 @@
 use mathlib.Core.Path.{sym}
 use lib.ListN.{length}
 use Rattle.map_text.proofs.Numbers.{puts_as, room_as, owner_free, owner_number}
-use borrow.Author.Rules.{rules}
 use Rattle.map_text.proofs.put_owner.Goals as goal
 
 pub put_word-requires : goal.put_word-requires

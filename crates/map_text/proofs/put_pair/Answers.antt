@@ -1,6 +1,5 @@
 -- The five pieces, one after another.
 use Rattle.map_text.proofs.Numbers.{room_1, room_2, room_3, room_4, room_5, pair_put}
-use borrow.Author.Rules.{rules}
 use Rattle.map_text.proofs.put_pair.Goals as goal
 
 pub put_byte-i-requires : goal.put_byte-i-requires

@@ -3,7 +3,6 @@ use native.Mathlib.Omega.{arith}
 use Rattle.map_text.specs.Text.{pair_text}
 use Rattle.map_text.proofs.Pieces.{rest_room, puts_then}
 use Rattle.map_text.proofs.Short.{refusal_short}
-use borrow.Author.Rules.{rules}
 use Rattle.map_text.proofs.put_refusal.Goals as goal
 
 pub put_pair-requires : goal.put_pair-requires

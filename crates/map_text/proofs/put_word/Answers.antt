@@ -1,11 +1,7 @@
 -- The bytes passed are stored; one more at each turn.
 use mathlib.Core.Path.{refl}
-use Prim.Native.Nat.{◌+◌, ◌-◌, ◌≤◌}
 use native.Mathlib.Omega.{arith}
-use lib.ListN.{length, take}
-use Rattle.map_text.specs.Parts.{Puts}
 use Rattle.map_text.proofs.Pieces.{puts_kept, puts_more, puts_word}
-use borrow.Author.Rules.{rules}
 use Rattle.map_text.proofs.put_word.Goals as goal
 
 pub loop-k-init : goal.loop-k-init

@@ -1,5 +1,5 @@
 -- The positions in the zones below z are listed (`PositionsListed`). The measure is what is left of the zones.
-use mathlib.Core.Path.{◌≡◌, refl, ap, ◌∙◌}
+use mathlib.Core.Path.{refl, ap, ◌∙◌}
 use Prim.Native.Nat.{◌-◌, ◌*◌}
 use native.Mathlib.Omega.{arith}
 use lib.ListN.{length, take}
@@ -10,7 +10,7 @@ use Rattle.walk.proofs.ZonesRead.{reads_on}
 use Rattle.mended.specs.Mended.{mended, differ_from}
 use Rattle.mend.proofs.ZoneMended.{block_ends}
 use Rattle.mend.proofs.ZonesInTurn.{zone_mend}
-use Rattle.mend.proofs.PositionsListed.{ListedBelow, positions_start, buffer_part, block_low, block_back, differing_asks, positions_turn, positions_end}
+use Rattle.mend.proofs.PositionsListed.{positions_start, buffer_part, block_low, block_back, differing_asks, positions_turn, positions_end}
 use borrow.Author.Rules.{rules}
 use Rattle.mend.proofs.list_changes.Goals as goal
 
@@ -24,12 +24,11 @@ pub overflow_add-e : goal.overflow_add-e
 overflow_add-e c = omega (arith, block_low c.requires.readable.numbers c.loop-z-test.true)
 
 pub mended_block-requires : goal.mended_block-requires
-mended_block-requires c =
-    (
-      zone_mend c.requires (all_bytes c.args.map.now (λ j. (c.type_inv.map j).fits)) c.args.map.now c.loop-z.z refl c.loop-z-test.true
-          (reads_on c.requires.readable c.loop-z.z (omega arith)) (omega (arith, c.loop-z.invariant.0)),
-      buffer_part c.requires.readable.numbers c.loop-z.block c.loop-z.invariant.1,
-    )
+mended_block-requires c = (
+  zone_mend c.requires (all_bytes c.args.map.now (λ j. (c.type_inv.map j).fits)) c.args.map.now c.loop-z.z refl c.loop-z-test.true
+      (reads_on c.requires.readable c.loop-z.z (omega arith)) (omega (arith, c.loop-z.invariant.0)),
+  buffer_part c.requires.readable.numbers c.loop-z.block c.loop-z.invariant.1,
+)
 
 pub slice_bounds-list_differing-end : goal.slice_bounds-list_differing-end
 slice_bounds-list_differing-end c =

@@ -1,12 +1,7 @@
 -- The positions of the first i bytes are listed (`Differences`). The measure is what is left of the bytes.
-use mathlib.Core.Path.{ap, ◌∙◌}
 use Prim.Native.Nat.{◌-◌, ◌≤◌}
-use native.Mathlib.Omega.{arith}
 use lib.ListN.{length, take}
-use lib.Seq.{length-sets}
-use Rattle.mended.specs.Mended.{differ_from}
-use Rattle.mend.proofs.Differences.{Listed, listed_starts, listed_few, byte_turn, listed_whole}
-use borrow.Author.Rules.{rules}
+use Rattle.mend.proofs.Differences.{Listed}
 use Rattle.mend.proofs.list_differing.Given as goal
 
 abbrev pub invariant-loop-i : goal.invariant-loop-i

@@ -1,6 +1,5 @@
 -- The check's refusal, or every zone mended.
 use Rattle.mend.proofs.Answers.{mendable_by, mend_refused, mend_done}
-use borrow.Author.Rules.{rules}
 use Rattle.mend.proofs.mend.Goals as goal
 
 pub mend_zones-requires : goal.mend_zones-requires

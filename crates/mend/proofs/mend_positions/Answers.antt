@@ -1,6 +1,5 @@
 -- The check's refusal; 17, where an empty part was lent and the list is as it was; or the positions, from its first entry on.
 use Rattle.mend.proofs.Answers.{none_lent, mendable_by, positions_refused, too_few, positions_listed}
-use borrow.Author.Rules.{rules}
 use Rattle.mend.proofs.mend_positions.Goals as goal
 
 pub list_changes-n-requires : goal.list_changes-n-requires

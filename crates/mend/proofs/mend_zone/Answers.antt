@@ -3,7 +3,6 @@ use mathlib.Core.Path.{refl, ap}
 use native.Mathlib.Omega.{arith}
 use Rattle.writer.specs.Edited.{zone_put}
 use Rattle.mend.proofs.ZoneMended.{block_ends, zone_drawing, zone_drawn_law}
-use borrow.Author.Rules.{rules}
 use Rattle.mend.proofs.mend_zone.Goals as goal
 
 pub overflow_mul-a : goal.overflow_mul-a

@@ -1,13 +1,9 @@
 -- The zones below z are mended (`ZonesInTurn`). The measure is what is left of the zones.
-use mathlib.Core.Path.{◌≡◌, ◌∙◌}
+use mathlib.Core.Path.{◌≡◌}
 use Prim.Native.Nat.{◌-◌}
-use native.Mathlib.Omega.{arith}
 use lib.ListN.{length}
-use Rattle.bits.proofs.Bytes.{all_bytes}
-use Rattle.edits.proofs.WrittenBelow.{WrittenBelow, written_starts}
+use Rattle.edits.proofs.WrittenBelow.{WrittenBelow}
 use Rattle.mended.specs.Mended.{mended}
-use Rattle.mend.proofs.ZonesInTurn.{next_mend, mending_turn, mending_ends}
-use borrow.Author.Rules.{rules}
 use Rattle.mend.proofs.mend_zones.Given as goal
 
 abbrev pub invariant-loop-z : goal.invariant-loop-z

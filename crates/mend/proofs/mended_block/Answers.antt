@@ -1,7 +1,6 @@
 -- The zone's block is copied, and drawn in the copy from the zone's pieces (`ZoneMended`).
 use native.Mathlib.Omega.{arith}
 use Rattle.mend.proofs.ZoneMended.{block_ends, zone_drawing, zone_drawn_law}
-use borrow.Author.Rules.{rules}
 use Rattle.mend.proofs.mended_block.Goals as goal
 
 pub overflow_mul-a : goal.overflow_mul-a

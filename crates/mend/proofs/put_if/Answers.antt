@@ -1,5 +1,5 @@
 -- Unwanted, nothing is stored; without room, a store past the end leaves the list as it is; else it is stored.
-use mathlib.Core.Path.{refl, sym}
+use mathlib.Core.Path.{sym}
 use native.Mathlib.Nat.{add-zero}
 use lib.Seq.{set_out}
 use Rattle.mend.proofs.put_if.Goals as goal

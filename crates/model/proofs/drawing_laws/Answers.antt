@@ -6,7 +6,7 @@ use Rattle.model.proofs.drawing_laws.Goals as goal
 pub returns : goal.returns
 returns c =
     record {
-  read_drawn = λ idlen at end ps h. read_drawn idlen h at end ps;
-  pieces_back = owned_drawn;
-  drawn_read = λ idlen at link bits es h. drawn_read idlen h at link bits es;
-}
+      read_drawn = λ idlen at end ps h. read_drawn idlen h at end ps;
+      pieces_back = owned_drawn;
+      drawn_read = λ idlen at link bits es h. drawn_read idlen h at link bits es;
+    }

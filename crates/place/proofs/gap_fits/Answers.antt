@@ -1,6 +1,5 @@
 -- No gap, or one that is compared with m.
 use Rattle.place.proofs.SmallTests.{no_gap, some_gap}
-use borrow.Author.Rules.{rules}
 use Rattle.place.proofs.gap_fits.Goals as goal
 
 pub returns-then-at-start : goal.returns-then-at-start

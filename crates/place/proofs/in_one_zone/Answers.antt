@@ -6,7 +6,6 @@ use Rattle.geometry.specs.Places.{disc_bits, zone_of, zone_end}
 use native.Mathlib.Omega.{arith}
 use Rattle.place.proofs.SmallTests.{off_disc, on_disc, zone_small}
 use Rattle.writer.proofs.ZoneParts.{next_zone}
-use borrow.Author.Rules.{rules}
 use Rattle.place.proofs.in_one_zone.Goals as goal
 
 pub returns-then-disc_bits-end : goal.returns-then-disc_bits-end

@@ -4,7 +4,6 @@ use mathlib.Core.Path.{ap, ◌∙◌}
 use Rattle.geometry.proofs.DiscBits.{disc_bits_small}
 use native.Mathlib.Omega.{arith}
 use Rattle.place.proofs.SmallTests.{late_place, early_place}
-use borrow.Author.Rules.{rules}
 use Rattle.place.proofs.order_place.Goals as goal
 
 pub returns-then-start-zone_of : goal.returns-then-start-zone_of

@@ -1,8 +1,7 @@
 -- The pieces from the i-th on lie apart from `at` on exactly where all do. The measure is what is left of the pieces.
-use mathlib.Core.Path.{◌≡◌, sym, ap, ◌∙◌}
-use Prim.Native.Nat.{ℕ, ◌-◌, ◌<◌}
+use mathlib.Core.Path.{sym, ap, ◌∙◌}
+use Prim.Native.Nat.{ℕ}
 use native.Mathlib.Nat.{sub-zero}
-use borrow.Author.Tests.{not-true, not-false}
 use native.Mathlib.Omega.{arith}
 use Rattle.edits.specs.Holes.{apart}
 use Rattle.writer.specs.Listed.{pieces_from}

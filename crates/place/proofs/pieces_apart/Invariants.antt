@@ -1,13 +1,8 @@
 -- The pieces from the i-th on lie apart from `at` on exactly where all do. The measure is what is left of the pieces.
-use mathlib.Core.Path.{◌≡◌, sym, ap, ◌∙◌}
-use Prim.Native.Nat.{ℕ, ◌-◌, ◌<◌}
-use native.Mathlib.Nat.{sub-zero}
-use borrow.Author.Tests.{not-true, not-false}
-use native.Mathlib.Omega.{arith}
+use mathlib.Core.Path.{◌≡◌}
+use Prim.Native.Nat.{◌-◌, ◌<◌}
 use Rattle.edits.specs.Holes.{apart}
 use Rattle.writer.specs.Listed.{pieces_from}
-use Rattle.place.proofs.ZonesJudged.{apart_ends, apart_fails, apart_goes_on}
-use borrow.Author.Rules.{rules}
 use Rattle.place.proofs.pieces_apart.Given as goal
 
 abbrev pub invariant-loop-i : goal.invariant-loop-i

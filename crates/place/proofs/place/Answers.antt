@@ -2,7 +2,6 @@
 use Rattle.place.proofs.Answers.{check_refuses}
 use Rattle.map.proofs.Accepts.{accepts}
 use mathlib.Core.Path.{sym, ◌∙◌}
-use borrow.Author.Rules.{rules}
 use Rattle.place.proofs.place.Goals as goal
 
 pub place_checked-requires : goal.place_checked-requires

@@ -5,9 +5,7 @@ use Rattle.geometry.specs.declared.Start.TheVariants as start
 use Rattle.bits.proofs.Bytes.{all_bytes}
 use Rattle.edits.specs.EditableMap.{EditableMap}
 use Rattle.edits.proofs.EditableMap.{map_editable}
-use borrow.Author.Tests.{not-true, not-false}
 use mathlib.Core.Path.{◌≡◌, sym, ◌∙◌}
-use borrow.Author.Rules.{rules}
 use Rattle.place.proofs.place_checked.Goals as goal
 use Rattle.place.proofs.place_checked.Goals.{In-None, In-Zone}
 

@@ -1,8 +1,6 @@
 -- 13, or the map edited: what was judged is what the edit asks.
 use native.Mathlib.Omega.{arith}
-use borrow.Author.Tests.{not-true, not-false}
 use Rattle.place.proofs.Answers.{no_room, edit_asks, done_places}
-use borrow.Author.Rules.{rules}
 use Rattle.place.proofs.place_list.Goals as goal
 
 pub returns-then-not-zones_fit : goal.returns-then-not-zones_fit

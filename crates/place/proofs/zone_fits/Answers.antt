@@ -7,7 +7,6 @@ use Rattle.edits.specs.Holes.{apart}
 use Rattle.writer.specs.Listed.{pieces_from}
 use Rattle.writer.proofs.ZoneParts.{next_zone}
 use Rattle.place.proofs.ZonesJudged.{nothing_listed, something_listed}
-use borrow.Author.Rules.{rules}
 use Rattle.place.proofs.zone_fits.Goals as goal
 
 pub returns-then-list-eq0 : goal.returns-then-list-eq0

@@ -1,17 +1,13 @@
 -- The zones from z on fit just where all do. The measure is what is left of the zones.
-use mathlib.Core.Path.{◌≡◌, refl, sym, ap, ◌∙◌}
-use Prim.Native.Nat.{ℕ, ◌-◌}
+use mathlib.Core.Path.{refl, sym, ap, ◌∙◌}
+use Prim.Native.Nat.{ℕ}
 use native.Mathlib.Nat.{sub-zero}
 use native.Mathlib.Omega.{arith}
-use lib.ListN.{length}
-use borrow.Author.Tests.{not-true, not-false}
 use Rattle.model.specs.Shown.{pieces_on}
 use Rattle.edits.specs.Edits.{give}
 use Rattle.edits.specs.Holes.{all_apart}
 use Rattle.edits.specs.Judge.{pairs_from}
-use Rattle.writer.specs.Parts.{PassAt}
 use Rattle.place.proofs.ZonesJudged.{zone_asks, zone_verdict, all_end, all_fail, all_go_on}
-use borrow.Author.Rules.{rules}
 use Rattle.place.proofs.zones_fit.Goals as goal
 
 pub first_part-part-requires : goal.first_part-part-requires

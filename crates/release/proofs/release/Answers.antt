@@ -2,7 +2,6 @@
 use mathlib.Core.Path.{sym, ◌∙◌}
 use Rattle.map.proofs.Accepts.{accepts}
 use Rattle.release.proofs.Answers.{check_refuses}
-use borrow.Author.Rules.{rules}
 use Rattle.release.proofs.release.Goals as goal
 
 pub release_checked-requires : goal.release_checked-requires

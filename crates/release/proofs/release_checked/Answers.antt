@@ -1,10 +1,8 @@
 -- The refusals 8 and 9, or the rest on a map that edits work on.
 use mathlib.Core.Path.{sym, ◌∙◌}
-use borrow.Author.Tests.{not-true, not-false}
 use Rattle.bits.proofs.Bytes.{all_bytes}
 use Rattle.edits.proofs.EditableMap.{map_editable}
 use Rattle.release.proofs.Answers.{not_named, touching_refuses}
-use borrow.Author.Rules.{rules}
 use Rattle.release.proofs.release_checked.Goals as goal
 
 pub returns-then-not-is_id : goal.returns-then-not-is_id

@@ -1,7 +1,6 @@
 -- The call's answer, as numbers.
 use mathlib.Core.Path.{sym, ap, ◌∙◌}
 use Rattle.claim.specs.Claimed.{claim_numbers}
-use borrow.Author.Rules.{rules}
 use Rattle.shoalswift.proofs.shoalswift_claim.Goals as goal
 
 pub returns-in-Pairs : goal.returns-in-Pairs

@@ -1,7 +1,6 @@
 -- The call's answer, as numbers.
 use mathlib.Core.Path.{sym, ap, ◌∙◌}
 use Rattle.copies.specs.Copies.{addresses_numbers}
-use borrow.Author.Rules.{rules}
 use Rattle.shoalswift.proofs.shoalswift_copy_addresses.Goals as goal
 
 pub returns-in-At : goal.returns-in-At

@@ -1,7 +1,6 @@
 -- The call's answer, as numbers.
 use mathlib.Core.Path.{sym, ap, ◌∙◌}
 use Rattle.format.specs.Formats.{length_numbers}
-use borrow.Author.Rules.{rules}
 use Rattle.shoalswift.proofs.shoalswift_format_length.Goals as goal
 
 pub returns-in-Bytes : goal.returns-in-Bytes

@@ -1,6 +1,5 @@
 -- The call's answer, as numbers.
 use mathlib.Core.Path.{◌∙◌}
-use borrow.Author.Rules.{rules}
 use Rattle.shoalswift.proofs.shoalswift_free.Goals as goal
 
 pub returns : goal.returns

@@ -1,7 +1,6 @@
 -- The call's answer, as numbers.
 use mathlib.Core.Path.{sym, ap, ◌∙◌}
 use Rattle.mend.specs.Mends.{positions_numbers}
-use borrow.Author.Rules.{rules}
 use Rattle.shoalswift.proofs.shoalswift_mend_positions.Goals as goal
 
 pub returns-in-Positions : goal.returns-in-Positions

@@ -1,7 +1,6 @@
 -- The call's answer, as numbers.
 use mathlib.Core.Path.{sym, ap, ◌∙◌}
 use Rattle.place.specs.Placed.{place_numbers}
-use borrow.Author.Rules.{rules}
 use Rattle.shoalswift.proofs.shoalswift_place.Goals as goal
 
 pub returns-in-Done : goal.returns-in-Done

@@ -10,11 +10,11 @@ use Rattle.split.proofs.split_laws.Goals as goal
 pub returns : goal.returns
 returns c =
     record {
-  too_few = λ m n hs k. too_few m n (by_size hs) (subst (λ (x : ℕ). x < n) (sym (total_sorted leads hs)) k);
-  refused_too_few = λ m n hs e. subst (λ (x : ℕ). x < n) (total_sorted leads hs) (refused_too_few m n (by_size hs) e);
-  front_taken = front_taken;
-  taken_front = taken_front;
-  cut_fits = cut_fits;
-  same = same;
-  largest = largest;
-}
+      too_few = λ m n hs k. too_few m n (by_size hs) (subst (λ (x : ℕ). x < n) (sym (total_sorted leads hs)) k);
+      refused_too_few = λ m n hs e. subst (λ (x : ℕ). x < n) (total_sorted leads hs) (refused_too_few m n (by_size hs) e);
+      front_taken = front_taken;
+      taken_front = taken_front;
+      cut_fits = cut_fits;
+      same = same;
+      largest = largest;
+    }

@@ -3,7 +3,6 @@ use mathlib.Core.Path.{refl}
 use native.Mathlib.Omega.{arith}
 use Rattle.geometry.proofs.DiscBits.{disc_bits_small}
 use Rattle.sweep.proofs.Bounds.{bit_on_map}
-use borrow.Author.Rules.{rules}
 use Rattle.sweep.proofs.bit_at.Goals as goal
 
 pub overflow_cast-result : goal.overflow_cast-result

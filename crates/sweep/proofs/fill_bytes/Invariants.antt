@@ -1,12 +1,8 @@
 -- The run of fill is one byte longer at each turn, by `FillRuns`. The measure is what is left of it.
-use Prim.Native.Nat.{ℕ, ◌-◌, ◌≤◌}
-use mathlib.Core.Path.{◌≡◌, refl, ap, ◌∙◌}
-use mathlib.Core.List.{List}
-use native.Mathlib.Omega.{arith}
-use lib.ListN.{length, set, length-set}
-use Rattle.sweep.proofs.FillRuns.{run_starts, run_turn}
+use Prim.Native.Nat.{◌-◌, ◌≤◌}
+use mathlib.Core.Path.{◌≡◌}
+use lib.ListN.{length}
 use Rattle.sweep.proofs.OnePair.{run}
-use borrow.Author.Rules.{rules}
 use Rattle.sweep.proofs.fill_bytes.Given as goal
 
 abbrev pub invariant-loop-i : goal.invariant-loop-i

@@ -5,15 +5,14 @@ use native.Mathlib.Nat.{sub-zero}
 use native.Mathlib.Omega.{arith}
 use lib.ListN.{length}
 use Rattle.geometry.specs.Places.{disc_bits}
-use Rattle.walk.specs.Remaining.{remaining, Stands}
+use Rattle.walk.specs.Remaining.{remaining}
 use Rattle.walk.proofs.Remains.{fewer}
 use Rattle.walk.specs.HeldBy.{line_pair, held_lines, held_from}
 use Rattle.walk.proofs.HeldLines.{held_starts, held_none, held_step}
 use Rattle.listing.proofs.Ascend.{map_apart}
 use Rattle.sweep.proofs.ApartCounts.{counts_fit}
 use Rattle.sweep.proofs.Bounds.{size_small}
-use Rattle.sweep.proofs.SweptOn.{SweptSoFar, swept_starts, part_inside, part_swept, swept_ends}
-use borrow.Author.Rules.{rules}
+use Rattle.sweep.proofs.SweptOn.{swept_starts, part_inside, part_swept, swept_ends}
 use Rattle.sweep.proofs.sweep_all.Goals as goal
 
 pub loop-w-init : goal.loop-w-init

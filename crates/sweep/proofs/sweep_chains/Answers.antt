@@ -10,15 +10,14 @@ use Rattle.geometry.specs.Places.{disc_bits, zone_from}
 use Rattle.model.specs.Chain.{Pair, pair}
 use Rattle.walk.specs.HeldBy.{held_from}
 use Rattle.walk.proofs.ZonesRead.{reads_on}
-use Rattle.chain.specs.FreeAhead.{StandsFree, free_ahead}
+use Rattle.chain.specs.FreeAhead.{free_ahead}
 use Rattle.chain.proofs.Ahead.{none_ahead, end_by_append}
 use Rattle.walk.proofs.HeldZones.{held_all}
 use Rattle.listing.proofs.Ascend.{Apart, apart_from, apart_rest, held_apart, map_apart}
 use Rattle.address.proofs.Bounds.{bytes_small}
 use Rattle.sweep.proofs.ApartCounts.{apart_end_by, counts_fit, swept_later, swept_past}
 use Rattle.sweep.proofs.Bounds.{size_small, zone_on_map, zone_before}
-use Rattle.sweep.proofs.SweptOn.{SweptSoFar, part_inside, part_swept, swept_ends}
-use borrow.Author.Rules.{rules}
+use Rattle.sweep.proofs.SweptOn.{part_inside, part_swept, swept_ends}
 use Rattle.sweep.proofs.sweep_chains.Goals as goal
 use Rattle.sweep.proofs.sweep_chains.Goals.{After-next-s}
 

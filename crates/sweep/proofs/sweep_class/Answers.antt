@@ -1,6 +1,5 @@
 -- The answers of `SweepAnswers` for a holder: 16, and the count.
 use Rattle.sweep.proofs.SweepAnswers.{past_disc, not_past, held_swept}
-use borrow.Author.Rules.{rules}
 use Rattle.sweep.proofs.sweep_class.Goals as goal
 
 pub returns-then-ends_past : goal.returns-then-ends_past

@@ -2,7 +2,6 @@
 use Rattle.map.specs.Accepted.{AcceptedMap}
 use Rattle.listing.proofs.Answers.{accepted_by}
 use Rattle.sweep.proofs.SweepAnswers.{check_refuses, free_swept}
-use borrow.Author.Rules.{rules}
 use Rattle.sweep.proofs.sweep_free.Goals as goal
 use Rattle.sweep.proofs.sweep_free.Goals.{In-Accepted}
 

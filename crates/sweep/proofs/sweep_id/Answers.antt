@@ -1,8 +1,6 @@
 -- The answers of `SweepAnswers` for an object: 8, 10, and the holder's sweep.
 use mathlib.Core.Path.{sym, ◌∙◌}
-use borrow.Author.Tests.{not-true, not-false}
 use Rattle.sweep.proofs.SweepAnswers.{no_id, no_object, object_swept}
-use borrow.Author.Rules.{rules}
 use Rattle.sweep.proofs.sweep_id.Goals as goal
 
 pub returns-then-not-is_id : goal.returns-then-not-is_id

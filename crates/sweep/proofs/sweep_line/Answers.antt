@@ -3,7 +3,6 @@ use mathlib.Core.Path.{◌∙◌}
 use native.Mathlib.Omega.{arith}
 use Rattle.address.proofs.Bounds.{bytes_small}
 use Rattle.sweep.proofs.OnePair.{wanted_swept, unwanted_swept}
-use borrow.Author.Rules.{rules}
 use Rattle.sweep.proofs.sweep_line.Goals as goal
 
 pub overflow_mul-bit : goal.overflow_mul-bit

@@ -1,7 +1,6 @@
 -- The check's refusal, or the answer on an accepted map.
 use Rattle.listing.proofs.Answers.{accepted_by}
 use Rattle.sweep.proofs.SweepAnswers.{check_refuses}
-use borrow.Author.Rules.{rules}
 use Rattle.sweep.proofs.sweep_object.Goals as goal
 
 pub returns-in-Refused : goal.returns-in-Refused

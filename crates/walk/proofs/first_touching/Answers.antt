@@ -3,14 +3,9 @@ use mathlib.Core.Path.{◌≡◌, sym, ap, ◌∙◌}
 use mathlib.Core.Bool.{Bool, ◌&&◌}
 use native.Mathlib.Omega.{arith}
 use lib.Dec.{eqb}
-use lib.ListN.{length}
-use Rattle.model.specs.Chain.{touching}
-use Rattle.model.specs.Shown.{zones_of}
-use Rattle.walk.specs.Remaining.{remaining, Stands}
 use Rattle.walk.proofs.Remains.{fewer}
-use Rattle.walk.specs.Touching.{touching_of, touching_lines}
+use Rattle.walk.specs.Touching.{touching_of}
 use Rattle.walk.proofs.ZonesTouching.{touching_starts, touching_turn, touching_stops, touching_ends}
-use borrow.Author.Rules.{rules}
 use Rattle.walk.proofs.first_touching.Goals as goal
 use Rattle.walk.proofs.first_touching.Goals.{After-both-in-loop-w}
 

@@ -1,16 +1,10 @@
 -- The lowest zone told by the lines that remain is that of all zones. The measure is how many lines remain.
-use mathlib.Core.Path.{◌≡◌, sym, ap, ◌∙◌}
-use mathlib.Core.Bool.{Bool, ◌&&◌}
-use native.Mathlib.Omega.{arith}
-use lib.Dec.{eqb}
+use mathlib.Core.Path.{◌≡◌}
 use lib.ListN.{length}
 use Rattle.model.specs.Chain.{touching}
 use Rattle.model.specs.Shown.{zones_of}
 use Rattle.walk.specs.Remaining.{remaining, Stands}
-use Rattle.walk.proofs.Remains.{fewer}
-use Rattle.walk.specs.Touching.{touching_of, touching_lines}
-use Rattle.walk.proofs.ZonesTouching.{touching_starts, touching_turn, touching_stops, touching_ends}
-use borrow.Author.Rules.{rules}
+use Rattle.walk.specs.Touching.{touching_lines}
 use Rattle.walk.proofs.first_touching.Given as goal
 
 abbrev pub invariant-loop-w : goal.invariant-loop-w

@@ -2,7 +2,6 @@
 use native.Mathlib.Omega.{arith}
 use Rattle.model.proofs.ByPlace.{zone_end_law}
 use Rattle.walk.proofs.Remains.{starts_past, starts_at}
-use borrow.Author.Rules.{rules}
 use Rattle.walk.proofs.from_zone.Goals as goal
 
 pub returns-then-g-z : goal.returns-then-g-z

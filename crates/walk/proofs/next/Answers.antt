@@ -10,7 +10,6 @@ use Rattle.fragment.specs.Reading.{length_at}
 use Rattle.fragment.proofs.Opened.{Opened}
 use Rattle.walk.specs.Remaining.{Passing, Settles}
 use Rattle.walk.proofs.Remains.{walk, in_bits, closes_here, opened_here, passes, advances}
-use borrow.Author.Rules.{rules}
 use Rattle.walk.proofs.next.Goals as goal
 use Rattle.walk.proofs.next.Goals.{After-whole_fragment-f}
 

@@ -3,7 +3,6 @@ use mathlib.Core.Path.{refl}
 use native.Mathlib.Omega.{arith}
 use Rattle.walk.proofs.ZonesRead.{reads_on}
 use Rattle.walk.proofs.Remains.{settles_here, settles_next}
-use borrow.Author.Rules.{rules}
 use Rattle.walk.proofs.settled.Goals as goal
 
 pub returns-then-w-zone_end : goal.returns-then-w-zone_end

@@ -1,7 +1,6 @@
 -- No bits, or one free fragment: the two cases of `GapFragment`.
 use Rattle.bits.specs.Bits.{byte_bits}
 use Rattle.writer.proofs.GapFragment.{gap_none, gap_some, gap_fits}
-use borrow.Author.Rules.{rules}
 use Rattle.writer.proofs.draw_gap.Goals as goal
 
 pub returns-then-to-hole : goal.returns-then-to-hole

@@ -1,11 +1,9 @@
 -- The zone is drawn from `to` on (`PiecesDrawn`). The measure is the lines left.
-use Prim.Native.Nat.{ℕ, ◌≤◌}
-use mathlib.Core.Path.{◌≡◌, refl, ◌∙◌, subst⁻¹}
+use Prim.Native.Nat.{ℕ}
+use mathlib.Core.Path.{refl, ◌∙◌, subst⁻¹}
 use native.Mathlib.Omega.{arith}
-use lib.ListN.{length}
 use Rattle.bits.specs.Bits.{byte_bits}
 use Rattle.writer.proofs.PiecesDrawn.{DrawnFrom, same_size, reaches, draw_starts, last_gap, last_asks, piece_fits, gap_fits, fragment_fits, draw_turn}
-use borrow.Author.Rules.{rules}
 use Rattle.writer.proofs.draw_pieces.Goals as goal
 
 pub loop-i-init : goal.loop-i-init

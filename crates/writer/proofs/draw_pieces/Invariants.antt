@@ -1,11 +1,9 @@
 -- The zone is drawn from `to` on (`PiecesDrawn`). The measure is the lines left.
-use Prim.Native.Nat.{ℕ, ◌≤◌}
-use mathlib.Core.Path.{◌≡◌, refl, ◌∙◌, subst⁻¹}
-use native.Mathlib.Omega.{arith}
+use Prim.Native.Nat.{◌≤◌}
+use mathlib.Core.Path.{◌≡◌}
 use lib.ListN.{length}
 use Rattle.bits.specs.Bits.{byte_bits}
-use Rattle.writer.proofs.PiecesDrawn.{DrawnFrom, same_size, reaches, draw_starts, last_gap, last_asks, piece_fits, gap_fits, fragment_fits, draw_turn}
-use borrow.Author.Rules.{rules}
+use Rattle.writer.proofs.PiecesDrawn.{DrawnFrom}
 use Rattle.writer.proofs.draw_pieces.Given as goal
 
 abbrev pub invariant-loop-i : goal.invariant-loop-i

@@ -3,7 +3,6 @@ use mathlib.Core.Path.{◌∙◌}
 use native.Mathlib.Omega.{arith}
 use Rattle.bits.proofs.Bytes.{all_bytes}
 use Rattle.writer.proofs.WholeZone.{zone_written}
-use borrow.Author.Rules.{rules}
 use Rattle.writer.proofs.draw_zone.Goals as goal
 
 pub seal-requires : goal.seal-requires

@@ -1,10 +1,7 @@
 -- The zones below z are done (`ZonesEdited`). The measure is what is left of the zones.
-use mathlib.Core.Path.{◌≡◌, refl, ◌∙◌}
-use Prim.Native.Nat.{◌-◌}
+use mathlib.Core.Path.{refl, ◌∙◌}
 use native.Mathlib.Omega.{arith}
-use lib.ListN.{length}
-use Rattle.writer.proofs.ZonesEdited.{Editing, editing_starts, editing_ends, zone_edit, editing_turn}
-use borrow.Author.Rules.{rules}
+use Rattle.writer.proofs.ZonesEdited.{editing_starts, editing_ends, zone_edit, editing_turn}
 use Rattle.writer.proofs.edit_map.Goals as goal
 
 pub touched_zones-touched-requires : goal.touched_zones-touched-requires
@@ -33,12 +30,11 @@ overflow_add-z c =
     omega (arith, c.loop-z-test.true, c.requires.0.editable.accepted.readable.numbers.zones_high)
 
 pub loop-z-preserved : goal.loop-z-preserved
-loop-z-preserved c =
-    (
-      c.edit_zone.auto.buffer ∙ c.loop-z.invariant.0,
-      editing_turn c.requires.0 c.loop-z.invariant.1 c.loop-z-test.true c.next_part-part.ensures.0 c.touched_zones-touched.result c.cross_change-change.result c.one.result
-          c.touched_zones-touched.ensures c.cross_change-change.ensures c.edit_zone.auto.map c.edit_zone.ensures c.one.ensures.0 c.one.ensures.1 c.next_part-part.ensures.1,
-    )
+loop-z-preserved c = (
+  c.edit_zone.auto.buffer ∙ c.loop-z.invariant.0,
+  editing_turn c.requires.0 c.loop-z.invariant.1 c.loop-z-test.true c.next_part-part.ensures.0 c.touched_zones-touched.result c.cross_change-change.result c.one.result
+      c.touched_zones-touched.ensures c.cross_change-change.ensures c.edit_zone.auto.map c.edit_zone.ensures c.one.ensures.0 c.one.ensures.1 c.next_part-part.ensures.1,
+)
 
 pub shape_of-map : goal.shape_of-map
 shape_of-map c = c.loop-z.invariant.1.zones.kept

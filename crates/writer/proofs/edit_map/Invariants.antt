@@ -1,10 +1,8 @@
 -- The zones below z are done (`ZonesEdited`). The measure is what is left of the zones.
-use mathlib.Core.Path.{◌≡◌, refl, ◌∙◌}
+use mathlib.Core.Path.{◌≡◌}
 use Prim.Native.Nat.{◌-◌}
-use native.Mathlib.Omega.{arith}
 use lib.ListN.{length}
-use Rattle.writer.proofs.ZonesEdited.{Editing, editing_starts, editing_ends, zone_edit, editing_turn}
-use borrow.Author.Rules.{rules}
+use Rattle.writer.proofs.ZonesEdited.{Editing}
 use Rattle.writer.proofs.edit_map.Given as goal
 
 abbrev pub invariant-loop-z : goal.invariant-loop-z

@@ -1,7 +1,6 @@
 -- Without pairs nothing is done, else the zone is drawn from the pieces after the edit (`ZoneEdited`).
 use native.Mathlib.Omega.{arith}
 use Rattle.writer.proofs.ZoneEdited.{block_ends, none_drawn, zone_drawing, some_drawn}
-use borrow.Author.Rules.{rules}
 use Rattle.writer.proofs.edit_zone.Goals as goal
 
 pub returns-then-list-eq0 : goal.returns-then-list-eq0

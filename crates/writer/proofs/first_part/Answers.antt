@@ -4,7 +4,6 @@ use native.Mathlib.Omega.{arith}
 use Rattle.geometry.specs.Places.{zone_of}
 use Rattle.writer.specs.declared.Pair as code
 use Rattle.writer.proofs.ListOrder.{even, some_pair, first_on_disc, first_zone_law, pass_starts}
-use borrow.Author.Rules.{rules}
 use Rattle.writer.proofs.first_part.Goals as goal
 
 pub pair_at-first-requires : goal.pair_at-first-requires

@@ -1,13 +1,7 @@
 -- What is left is merged as all was (`PairsMerged`). The measure is the pieces and pairs left.
-use Prim.Native.Nat.{◌+◌, ◌*◌, ◌/◌, ◌≤◌}
-use mathlib.Core.Path.{◌≡◌, ◌∙◌}
-use mathlib.Core.List.{List}
+use mathlib.Core.Path.{◌∙◌}
 use native.Mathlib.Omega.{arith}
-use lib.ListN.{length}
-use Rattle.model.specs.Pieces.{Piece}
-use Rattle.writer.specs.Listed.{Merging}
 use Rattle.writer.proofs.PairsMerged.{merge_ends}
-use borrow.Author.Rules.{rules}
 use Rattle.writer.proofs.merge_pairs.Goals as goal
 
 pub loop-j-preserved : goal.loop-j-preserved

@@ -2,7 +2,6 @@
 use mathlib.Core.Path.{refl, sym, ◌∙◌}
 use native.Mathlib.Omega.{arith}
 use Rattle.writer.proofs.PairsMerged.{some_pieces, merge_piece, merge_pair}
-use borrow.Author.Rules.{rules}
 use Rattle.writer.proofs.move_last.Goals as goal
 
 pub overflow_sub-top : goal.overflow_sub-top

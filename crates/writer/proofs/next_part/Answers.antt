@@ -1,6 +1,5 @@
 -- The pass's next part, by `pass_turn`.
 use Rattle.writer.proofs.ZonePass.{part_asks, pass_turn}
-use borrow.Author.Rules.{rules}
 use Rattle.writer.proofs.next_part.Goals as goal
 
 pub part_end-to-requires : goal.part_end-to-requires

@@ -1,13 +1,7 @@
 -- What is passed and what is still found from here on make up what is found from entry i on. The measure is what is left of the list.
-use mathlib.Core.Path.{◌≡◌, refl, sym, ◌∙◌}
-use Prim.Native.Nat.{◌+◌, ◌-◌, ◌*◌, ◌%◌, ◌≤◌}
+use mathlib.Core.Path.{refl, sym, ◌∙◌}
 use native.Mathlib.Omega.{arith}
-use lib.ListN.{length, drop}
-use borrow.Author.Tests.{not-true, not-false}
-use Rattle.edits.specs.Judge.{pairs_from}
-use Rattle.writer.specs.Parts.{leading}
 use Rattle.writer.proofs.PairLists.{leading_ends, leading_stops, leading_goes_on}
-use borrow.Author.Rules.{rules}
 use Rattle.writer.proofs.part_end.Goals as goal
 
 pub loop-j-init : goal.loop-j-init

@@ -1,7 +1,6 @@
 -- The pieces that stay, or these with the pairs merged in (`ZonePieces`).
 use native.Mathlib.Omega.{arith}
 use Rattle.writer.proofs.ZonePieces.{none_come, some_come, merge_starts}
-use borrow.Author.Rules.{rules}
 use Rattle.writer.proofs.pieces_after.Goals as goal
 
 pub returns-then-id-eq0 : goal.returns-then-id-eq0

@@ -1,7 +1,6 @@
 -- Three stores one after the other.
 use lib.ListN.{length-set}
 use native.Mathlib.Omega.{arith}
-use borrow.Author.Rules.{rules}
 use Rattle.writer.proofs.put_piece.Goals as goal
 
 pub bounds-pieces-i-2 : goal.bounds-pieces-i-2

@@ -3,7 +3,6 @@ use mathlib.Core.Path.{ap, ◌∙◌}
 use lib.Dec.{ltb}
 use Rattle.writer.specs.declared.Piece as code
 use Rattle.writer.proofs.PairsMerged.{starts_none, starts_some}
-use borrow.Author.Rules.{rules}
 use Rattle.writer.proofs.starts_after.Goals as goal
 
 pub returns-then-i-eq0 : goal.returns-then-i-eq0

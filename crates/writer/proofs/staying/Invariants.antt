@@ -1,11 +1,8 @@
 -- What is stored, and what the lines that remain add to it, is all that stays (`StayingPieces`). The measure is how many lines remain.
 use Prim.Native.Nat.{◌+◌}
-use native.Mathlib.Omega.{arith}
 use lib.ListN.{length}
 use Rattle.walk.specs.Remaining.{lines_in, remaining, Stands}
-use Rattle.walk.proofs.Remains.{none_remain, fewer}
-use Rattle.writer.proofs.StayingPieces.{Staying, line_room, stay_turn, lines_few, stay_starts, stay_ends}
-use borrow.Author.Rules.{rules}
+use Rattle.writer.proofs.StayingPieces.{Staying}
 use Rattle.writer.proofs.staying.Given as goal
 
 abbrev pub invariant-loop-w : goal.invariant-loop-w

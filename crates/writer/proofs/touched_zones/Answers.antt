@@ -1,13 +1,11 @@
 -- The zones below z are counted. The measure is what is left of the zones.
 use mathlib.Core.Path.{◌≡◌, refl, ap, ◌∙◌}
-use Prim.Native.Nat.{ℕ, ◌-◌, ◌≤◌}
+use Prim.Native.Nat.{ℕ}
 use native.Mathlib.Omega.{arith}
 use Rattle.checks.specs.Cross.{touched_count}
 use Rattle.edits.specs.Edits.{touched_from}
 use Rattle.edits.specs.Judge.{pairs_from}
-use Rattle.writer.specs.Parts.{PassAt}
 use Rattle.writer.proofs.PartPairs.{part_touches, count_turn}
-use borrow.Author.Rules.{rules}
 use Rattle.writer.proofs.touched_zones.Goals as goal
 
 pub loop-z-init : goal.loop-z-init

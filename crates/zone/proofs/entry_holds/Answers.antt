@@ -1,7 +1,6 @@
 -- The three rules, each by its own function.
 use mathlib.Core.Path.{ap₂, ◌∙◌}
 use mathlib.Core.Bool.{Bool, ◌&&◌}
-use borrow.Author.Rules.{rules}
 use Rattle.zone.proofs.entry_holds.Goals as goal
 
 pub returns : goal.returns

@@ -6,7 +6,6 @@ use lib.Dec.{eqb}
 use Rattle.bits.proofs.Tests.{by_test}
 use Rattle.model.specs.Chain.{onward}
 use Rattle.model.specs.Blocks.{link_in}
-use borrow.Author.Rules.{rules}
 use Rattle.zone.proofs.first_free.Goals as goal
 
 onward_high : (at link : ℕ) → onward at link ≤ at + link

@@ -1,6 +1,5 @@
 -- Only the first fragment of the middle zone is tested.
 use mathlib.Core.Path.{sym, ◌∙◌}
-use borrow.Author.Rules.{rules}
 use Rattle.zone.proofs.first_holds.Goals as goal
 
 pub returns-then-free : goal.returns-then-free

@@ -1,5 +1,4 @@
 -- A free fragment has no owner; any other's is tested.
-use borrow.Author.Rules.{rules}
 use Rattle.zone.proofs.id_holds.Goals as goal
 
 pub returns : goal.returns

@@ -1,6 +1,6 @@
 -- The walk of `JudgeWalk`: at every place what was found and what is to come give the zone's verdict. The measure is what
 -- is left of the zone.
-use Prim.Native.Nat.{◌+◌, ◌-◌, ◌<◌, ◌≤◌}
+use Prim.Native.Nat.{◌+◌, ◌<◌, ◌≤◌}
 use mathlib.Core.Path.{◌≡◌, sym, ap, ◌∙◌}
 use mathlib.Core.Bool.{Bool, ◌&&◌}
 use native.Mathlib.Omega.{arith}
@@ -8,12 +8,10 @@ use lib.Dec.{eqb, leb}
 use borrow.Author.Tests.{le-leb, lt-leb, eq-eqb, ne_eqb}
 use Rattle.fragment.specs.Found.{fragment_at}
 use Rattle.fragment.specs.declared.Found.TheVariants as found
-use Rattle.geometry.specs.Places.{end_bit}
 use Rattle.model.specs.Check.{zone_read}
 use Rattle.zone.specs.Walk.{holder_of, entry_holds, verdict_of}
 use Rattle.zone.proofs.AllocBits.{ZoneBlock, whole_fits}
-use Rattle.zone.proofs.JudgeWalk.{JudgedSoFar, at_end, judge_starts, judge_turn, judge_breaks, judge_ends}
-use borrow.Author.Rules.{rules}
+use Rattle.zone.proofs.JudgeWalk.{at_end, judge_starts, judge_turn, judge_breaks, judge_ends}
 use Rattle.zone.proofs.judge.Goals as goal
 use Rattle.zone.proofs.judge.Goals.{After-loop-at, At-loop-at, In-Whole}
 

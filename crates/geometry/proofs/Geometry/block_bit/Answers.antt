@@ -1,7 +1,6 @@
 -- The product is small.
 use native.Mathlib.Omega.{arith}
 use Rattle.geometry.proofs.DiscBits.{zone_bits_small}
-use borrow.Author.Rules.{rules}
 use Rattle.geometry.proofs.Geometry.block_bit.Goals as goal
 
 pub overflow_mul-z : goal.overflow_mul-z

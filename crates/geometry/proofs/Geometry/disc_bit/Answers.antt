@@ -1,7 +1,6 @@
 -- The product is small, and no bit of a zone lies before disc bit 0.
 use native.Mathlib.Omega.{arith}
 use Rattle.geometry.proofs.DiscBits.{zone_bits_small, from_zero_on}
-use borrow.Author.Rules.{rules}
 use Rattle.geometry.proofs.Geometry.disc_bit.Goals as goal
 
 pub overflow_mul-result : goal.overflow_mul-result

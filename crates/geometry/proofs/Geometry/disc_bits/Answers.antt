@@ -1,7 +1,6 @@
 -- The map's bits are few, and zone 0 alone has 480 and more.
 use native.Mathlib.Omega.{arith}
 use Rattle.geometry.proofs.DiscBits.{zone_bits_small, map_bits_low}
-use borrow.Author.Rules.{rules}
 use Rattle.geometry.proofs.Geometry.disc_bits.Goals as goal
 
 pub overflow_mul-result : goal.overflow_mul-result

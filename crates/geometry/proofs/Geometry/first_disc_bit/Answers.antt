@@ -1,6 +1,5 @@
 -- A zone's disc bits start with that of its first allocation bit.
 use mathlib.Core.Path.{sym, ap, ◌∙◌}
-use borrow.Author.Rules.{rules}
 use Rattle.geometry.specs.Places.{disc_bit}
 use Rattle.geometry.proofs.DiscBits.{zone_starts}
 use Rattle.geometry.proofs.Geometry.first_disc_bit.Goals as goal
