@@ -1,5 +1,5 @@
 #!/bin/sh
-# Writes docs/FIGURES.md: sizes, check times, run times, stack. No figure of that page is typed by hand.
+# Writes docs/FIGURES.md: sizes, the gate's time, run times, stack. No figure of that page is typed by hand.
 #   docs/figures.sh              measures all of it: gate, compare, bench, stack (half an hour; nothing else should run meanwhile)
 #   docs/figures.sh STEP ..      measures these steps anew; what the other steps printed last is used again
 #   docs/figures.sh page         measures nothing

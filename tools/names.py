@@ -2,7 +2,8 @@
 """Brings the repository's own names to snake_case (types to CamelCase). Run at the top of the checkout, no arguments.
 
 Own names are those that crates/*/{specs,proofs}/**/*.antt declare. What a file imports from the kit keeps its spelling there, and so does
-what the checker generates (Need-.., invariant-.., decreases-.., F-spec in proofs/F/Proof.antt). A second run finds nothing to rename.
+what the checker generates (Need-.., invariant-.., decreases-.., F-spec in proofs/F/Proof.antt). It is for the tree as port.py leaves it, and stops where
+proofs of functions are in the new form already: their goals have hyphens in their names.
 """
 import glob
 import os
@@ -295,6 +296,8 @@ def edits():
 
 
 def main():
+    if glob.glob('crates/*/proofs/**/Answers.antt', recursive=True):
+        sys.exit('names.py: proofs of functions are in the new form already; nothing was changed')
     n = Names()
     changed = {}
     for p in n.antt:

@@ -41,7 +41,7 @@ pub fn print(rt: &impl Print, buffer: &[u8], n: usize) -> io::Result<()>
     print_parts(rt, &buffer[..n], &mut text)
 }
 
-// Part after part, until nothing is left. No contract can speak of what is written, so this one says nothing; the loop's invariant
+// Part after part, until nothing is left. No contract of printing speaks of what is written, so this one says nothing; the loop's invariant
 // keeps the parts handed over so far, which with what is left are the text.
 fn print_parts(rt: &impl Print, input: &[u8], text: &mut [u8]) -> io::Result<()>
     requires { 33 ≤ length text.old }

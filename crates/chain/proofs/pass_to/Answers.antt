@@ -5,12 +5,12 @@ use mathlib.Core.List.{List}
 use native.Mathlib.Omega.{arith}
 use lib.ListN.{length}
 use Rattle.geometry.specs.declared.Geometry.{Geometry}
-use Rattle.geometry.specs.Places.{end_bit}
+use Rattle.geometry.specs.Places.{end_bit, disc_bit}
 use Rattle.chain.specs.declared.FreeWalk.{FreeWalk}
 use Rattle.chain.specs.FreeAhead.{AtFree, StandsFree, PassesTo}
 use Rattle.chain.proofs.Ahead.{free_walk, closes_here, advances_here, passes_none, passes_more}
 use Rattle.chain.proofs.pass_to.Goals as goal
-use Rattle.chain.proofs.pass_to.Goals.{Else-d-disc_bit, In-loop-linked}
+use Rattle.chain.proofs.pass_to.Goals.{In-loop-linked}
 
 pub returns-then-g-z : goal.returns-then-g-z
 returns-then-g-z c = passes_none c.args.d.0 c.requires
@@ -36,15 +36,15 @@ disc_bit-requires c =
     let t = there c in
     (n, omega (arith, i.0, n.zones_high), t.low, omega (arith, t.inside))
 
--- one span more is passed
-more : (c : Else-d-disc_bit) → let a = c.args in
-    PassesTo a.map.now a.g a.d.0 a.w (free_walk a.w.zone c.loop-linked.linked.0)
-more c =
-    let i = c.loop-linked.invariant in
-    passes_more i.0 i.1 i.2 c.loop-linked-test.true (omega (arith, c.if-d-disc_bit.false, c.disc_bit.ensures))
+-- one span more is passed, where the next one starts at d or before
+more : (c : In-loop-linked) → let a = c.args in
+    disc_bit a.g a.w.zone c.loop-linked.linked.0 ≤ a.d.0 → PassesTo a.map.now a.g a.d.0 a.w (free_walk a.w.zone c.loop-linked.linked.0)
+more c h = let i = c.loop-linked.invariant in passes_more i.0 i.1 i.2 c.loop-linked-test.true h
 
 pub linked_from-linked-requires-in-loop-linked : goal.linked_from-linked-requires-in-loop-linked
-linked_from-linked-requires-in-loop-linked c = let i = c.loop-linked.invariant in let m = more c in (m.stands.ahead, i.0, id_inside i.0 m.stands)
+linked_from-linked-requires-in-loop-linked c =
+    let i = c.loop-linked.invariant in
+    let m = more (goal.at.linked_from-linked-requires-in-loop-linked c).In-loop-linked (omega arith) in (m.stands.ahead, i.0, id_inside i.0 m.stands)
 
 pub loop-linked-smaller : goal.loop-linked-smaller
 loop-linked-smaller c =
@@ -52,7 +52,7 @@ loop-linked-smaller c =
     omega (arith, ap length (advances_here i.0 i.1.stands refl refl i.2 c.loop-linked-test.true).passed)
 
 pub loop-linked-preserved : goal.loop-linked-preserved
-loop-linked-preserved c = (c.loop-linked.invariant.0, more (goal.at.loop-linked-preserved c).Else-d-disc_bit, c.linked_from-linked-in-loop-linked.ensures)
+loop-linked-preserved c = (c.loop-linked.invariant.0, more (goal.at.loop-linked-preserved c).In-loop-linked (omega arith), c.linked_from-linked-in-loop-linked.ensures)
 
 pub returns-then-d-disc_bit : goal.returns-then-d-disc_bit
 returns-then-d-disc_bit c = c.loop-linked.invariant.1

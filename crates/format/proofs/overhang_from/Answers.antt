@@ -1,5 +1,6 @@
 -- By the test, as the definition: the disc's end is before the map's, or not.
 use native.Mathlib.Omega.{arith}
+use borrow.Author.Rules.{rules}
 use Rattle.format.proofs.Places.{shortest_in_map, no_overhang, overhang_is}
 use Rattle.format.proofs.overhang_from.Goals as goal
 
@@ -12,5 +13,4 @@ overflow_sub-bits c =
 
 pub returns : goal.returns
 returns c =
-    overhang_is c.args.g c.disc_bits-bits.result c.shortest_fragment.result c.smaller.result c.disc_bits-bits.ensures
-    c.shortest_fragment.ensures c.if-bits-end.false c.smaller.ensures
+    overhang_is c.args.g c.disc_bits-bits.result c.shortest_fragment.result _ c.disc_bits-bits.ensures c.shortest_fragment.ensures c.if-bits-end.false (search rules)
