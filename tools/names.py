@@ -296,7 +296,7 @@ def edits():
 
 
 def main():
-    if glob.glob('crates/*/proofs/**/Answers.antt', recursive=True):
+    if glob.glob('crates/*/proofs/*/**/Answers.antt', recursive=True):
         sys.exit('names.py: proofs of functions are in the new form already; nothing was changed')
     n = Names()
     changed = {}
