@@ -213,8 +213,8 @@ copied_by_runs m n position l e room qs f asks =
 
 -- an object that `list` answers has a first byte
 some_byte : (unit : ℕ) (qs : List Pair) → (qs ≡ [] → ⊥) → ((q : Pair) → At q 0 qs → 0 < q.len * unit) → (a : ℕ) × (seek unit qs 0 ≡ at a)
-some_byte unit [] n k = absurd (n refl)
-some_byte unit (q ∷ qs) n k = (q.start * unit, ap address_sought (first_byte unit q qs (k q first)))
+some_byte b [] n k = absurd (n refl)
+some_byte b (q ∷ qs) n k = (q.start * b, ap address_sought (first_byte b q qs (k q first)))
 
 pub object_copied : (m : List ℕ) → version_of m ≡ 0 → (id room : ℕ) (qs : List Pair) → 2 ≤ id → object_found m id room ≡ answered qs
     → (asks : ℕ) → length qs ≤ asks → copied (location_found m (id * 256)) asks 0 ≡ joined (geometry_of m).unit qs

@@ -1,21 +1,18 @@
 -- From a file's internal number and a position to a disc address, and how far may be read from there (document 01, "Address", refusals 8,
 -- 10, 16; document 02, R-11, R-12).
 -- Assumes nothing.
-use Rattle.std.specs.Prelude.{◌≡◌, Bool, not, cond, ◌&&◌, List, [], ◌∷◌, ℕ, ◌+◌, ◌-◌, ◌*◌, ◌/◌, ◌%◌, eqb, ltb}
+use Rattle.std.specs.Prelude.{◌≡◌, Bool, not, cond, ◌&&◌, List, [], ◌∷◌, ℕ, ◌+◌, ◌-◌, ◌*◌, ◌/◌, ◌%◌, eqb, ltb, Result, Ok, Err}
 use Rattle.geometry.specs.declared.Geometry.{Geometry}
+use Rattle.geometry.specs.declared.Refusal.{Refusal}
 use Rattle.geometry.specs.Record.{geometry_of}
 use Rattle.geometry.specs.Places.{id_from}
-use Rattle.geometry.specs.Answers.{refusal}
+use Rattle.geometry.specs.Answers.{number, refusal}
 use Rattle.model.specs.Answer.{Answer, refused, answered, unless, and_then}
 use Rattle.model.specs.Chain.{Pair, Entry}
 use Rattle.model.specs.Check.{map_read}
 use Rattle.model.specs.Pieces.{pieces_of_zones, object_pairs}
 use Rattle.listing.specs.Listed.{present}
 use Rattle.address.specs.declared.Location.{Location}
-use Rattle.address.specs.declared.Reached.{Reached}
-use Rattle.address.specs.declared.Reached.TheVariants as reached
-use Rattle.address.specs.declared.Seek.{Seek}
-use Rattle.address.specs.declared.Seek.TheVariants as sought
 
 -- "internal number n below 2^24: id = n div 256, low byte s. Start offset is 0 for s = 0, else (s-1)*S."
 abbrev pub id_of : ℕ → ℕ
@@ -44,11 +41,6 @@ address_sought (past i) = past i
 abbrev pub seek : ℕ → List Pair → ℕ → Sought ℕ
 seek unit qs i = address_sought (locate unit qs i)
 
--- as the code tells it
-abbrev pub seek_of : Sought Location → Seek
-seek_of (at l) = sought.At l
-seek_of (past i) = sought.Past i
-
 -- 16: "start offset plus position not below the object's length"
 abbrev pub within : Sought Location → Answer Location
 within (at l) = answered l
@@ -72,14 +64,14 @@ location_found m n position = and_then (map_read m) (location_read (geometry_of 
 abbrev pub address_found : List ℕ → ℕ → ℕ → Answer ℕ
 address_found m n position = and_then (location_found m n position) (λ (l : Location). answered l.address)
 
-abbrev pub address_answer : Answer Location → Reached
-address_answer (answered l) = reached.At l
-address_answer (refused n z) = reached.Refused (refusal n z)
+abbrev pub address_answer : Answer Location → Result Location Refusal
+address_answer (answered l) = Ok l
+address_answer (refused n z) = Err (refusal n z)
 
 -- the paper's numbers: refusal (0: accepted), zone told, address, bytes that follow
-abbrev pub address_numbers : Reached → ℕ × ℕ × ℕ × ℕ
-address_numbers (reached.At l) = (0, 0, l.address, l.run)
-address_numbers (reached.Refused r) = (r.number, r.zone, 0, 0)
+abbrev pub address_numbers : Result Location Refusal → ℕ × ℕ × ℕ × ℕ
+address_numbers (Ok l) = (0, 0, l.address, l.run)
+address_numbers (Err r) = (number r.reason, r.zone, 0, 0)
 
 -- as the table gives them for what is found
 abbrev pub address_told : Answer Location → ℕ × ℕ × ℕ × ℕ
@@ -87,6 +79,6 @@ address_told (refused n z) = (n, z, 0, 0)
 address_told (answered l) = (0, 0, l.address, l.run)
 
 -- the answer with its numbers
-pub record Reaches (m : List ℕ) (n position : ℕ) (r : Reached) : Type 0 where
+pub record Reaches (m : List ℕ) (n position : ℕ) (r : Result Location Refusal) : Type 0 where
   pub answer : r ≡ address_answer (location_found m n position)
   pub numbers : address_numbers r ≡ address_told (location_found m n position)

@@ -5,8 +5,8 @@ use mathlib.Core.List.{List, [], ◌∷◌, ◌++◌}
 use Prim.Native.Nat.{ℕ, zero, suc, ◌+◌, ◌-◌, ◌*◌, ◌/◌, ◌%◌, ◌^◌, ◌<◌, ◌≤◌}
 use native.Mathlib.Omega.{arith}
 use lib.Dec.{eqb, ltb}
-use lib.ListN.{length, get_or, take, drop, length-append, length-drop, take-append-drop, get_or-append}
-use lib.Seq.{length-take-le, take_at, drop_at, get_or-append-add}
+use lib.ListN.{length, get_or, take, drop, length-drop, take-append-drop, get_or-append}
+use lib.Seq.{length-take-le, get_or-append-add}
 use borrow.Author.Tests.{ltb-true, ltb-false}
 use Rattle.bits.specs.Bits.{number_bits, value, byte_bits, bytes_of, Bytes}
 use Rattle.bits.proofs.Tests.{by_test}
@@ -14,7 +14,7 @@ use Rattle.bits.proofs.Digits.{length_number, value_bits, bits_value, number_at}
 
 pub length_byte_bits : (bs : List ℕ) → length (byte_bits bs) ≡ 8 * length bs
 length_byte_bits [] = refl
-length_byte_bits (b ∷ bs) = simp (length-append, length_number, length_byte_bits bs) (omega arith)
+length_byte_bits (b ∷ bs) = simp (length_byte_bits bs) (omega arith)
 
 pub length_bytes : (n : ℕ) (bs : List Bool) → length (bytes_of n bs) ≡ n
 length_bytes zero bs = refl
@@ -23,7 +23,7 @@ length_bytes (suc n) bs = ap suc (length_bytes n (drop 8 bs))
 pub bytes_bits : (bs : List ℕ) → Bytes bs → bytes_of (length bs) (byte_bits bs) ≡ bs
 bytes_bits [] h = refl
 bytes_bits (b ∷ bs) h =
-    simp (take_at (number_bits 8 b) (byte_bits bs) 8 (length_number 8 b), drop_at (number_bits 8 b) (byte_bits bs) 8 (length_number 8 b), value_bits 8 b h.0, bytes_bits bs h.1)
+    simp (value_bits 8 b h.0, bytes_bits bs h.1)
 
 pub bits_bytes : (n : ℕ) (bs : List Bool) → length bs ≡ 8 * n → byte_bits (bytes_of n bs) ≡ bs
 bits_bytes zero [] h = refl

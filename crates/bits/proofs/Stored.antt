@@ -3,7 +3,7 @@ use mathlib.Core.Path.{◌≡◌, refl, sym, ap, ap₂, ◌∙◌}
 use mathlib.Core.Bool.{Bool, true, false}
 use mathlib.Core.List.{List, [], ◌∷◌, ◌++◌}
 use Prim.Native.Nat.{ℕ, zero, suc, ◌+◌, ◌-◌, ◌*◌, ◌/◌, ◌%◌, ◌^◌, ◌<◌, ◌≤◌}
-use native.Mathlib.Nat.{mod-lt, add-zero, sub-zero, div-one}
+use native.Mathlib.Nat.{mod-lt, add-zero, div-one}
 use native.Mathlib.Omega.{arith}
 use lib.Dec.{eqb, ltb, lit<}
 use lib.Bits.{bit_or, bit_and}
@@ -130,16 +130,3 @@ bit_written B W b n w h e =
     let f : suc (n - 1) ≡ n = omega arith in
     let g : b + 1 ≡ suc b = omega arith in
     (λ i. sets (e i) (g i) (number_bits (n - 1) (w / 2))) ∙ ap (λ (k : ℕ). sets B b (number_bits k w)) f
-
-module _ (at n : ℕ) where
-  pub write_first : (B : List Bool) (v : ℕ) → sets B (at + 0) (number_bits (n - 0) v) ≡ sets B at (number_bits n v)
-  write_first B v = ap₂ (λ (a k : ℕ). sets B a (number_bits k v)) (add-zero at) (sub-zero n)
-
-  pub write_step : (B : List Bool) (i k w : ℕ) {S : List Bool} → k ≤ n - i → sets B (at + i + k) (number_bits (n - i - k) w) ≡ S → sets B (at + (i + k)) (number_bits (n - (i + k)) w) ≡ S
-  write_step B i k w {S} l h =
-      let e : at + (i + k) ≡ at + i + k = omega arith in
-      let f : n - (i + k) ≡ n - i - k = omega arith in
-      (λ x. sets B (e x) (number_bits (f x) w)) ∙ h
-
-  pub write_last : (B : List Bool) (i w : ℕ) → n ≤ i → B ≡ sets B (at + i) (number_bits (n - i) w)
-  write_last B i w l = let e : 0 ≡ n - i = omega arith in ap (λ (k : ℕ). sets B (at + i) (number_bits k w)) e

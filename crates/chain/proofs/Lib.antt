@@ -1,2 +1,3 @@
 pub mod Links
 pub mod Ahead
+pub mod Stands

@@ -1,9 +1,8 @@
 -- Where a chain leads: over fragments that are owned, none of which has the number of free space, to the next free fragment, or over all
 -- that are left of the zone.
-use mathlib.Core.Path.{◌≡◌, refl, ap, ◌∙◌, subst}
+use mathlib.Core.Path.{◌≡◌, refl, ap, ◌∙◌}
 use mathlib.Core.Bool.{Bool, true, false}
 use mathlib.Core.List.{List, [], ◌∷◌}
-use mathlib.Core.Option.{Option, none}
 use Prim.Native.Nat.{ℕ, zero, suc, ◌+◌, ◌<◌, ◌≤◌}
 use native.Mathlib.Omega.{arith}
 use lib.Dec.{eqb, ltb}
@@ -13,10 +12,10 @@ use borrow.Author.Tests.{eq-eqb, eqb-true, ltb-true, ltb-false}
 use Rattle.bits.proofs.Tests.{by_test, both}
 use Rattle.geometry.specs.declared.Geometry.{Geometry}
 use Rattle.geometry.specs.Places.{end_bit}
-use Rattle.model.specs.Chain.{pair, Entry, Holder, free, owned, entry, onward}
+use Rattle.model.specs.Chain.{pair, Holder, free, owned, entry, onward}
 use Rattle.model.specs.Check.{every, id_fits, holder_fits}
 use Rattle.fragment.specs.Found.{next_after}
-use Rattle.fragment.specs.Reading.{id_at, length_at, read_from, CanRead, holder_at}
+use Rattle.fragment.specs.Reading.{id_at, length_at, holder_at}
 use Rattle.fragment.proofs.Step.{fragment_of}
 use Rattle.fragment.proofs.Opened.{Opened, opened, read_on, none_read}
 use Rattle.walk.specs.HeldBy.{held_by}
@@ -47,18 +46,14 @@ module _ {g : Geometry} {B : List Bool} (pos : 0 < g.idlen) (he : end_bit g ≤ 
         → (entries_at g B at next ≡ entry at (fragment_of id len) holder ∷ entries_at g B (at + len) then) × (holder_fits g holder ≡ true) × ReadsAt g B (at + len) then
     past holder then eh en =
         let p = read_on fragment in
-        let e : entries_at g B at next ≡ entry at (fragment_of id len) holder ∷ entries_at g B (at + len) then =
-        p.1 ∙ (λ i. entry at (fragment_of id len) (eh i) ∷ entries_at g B (at + len) (en i)) in
-        let o = both (holder_fits g holder) (every (id_fits g) (entries_at g B (at + len) then)) (subst (λ (x : List Entry). every (id_fits g) x ≡ true) e r.owners) in (
-          e,
-          o.0,
-          record { readable = subst (λ (x : ℕ). CanRead (read_from g.idlen (at + len) (end_bit g) x B)) en p.0; owners = o.1 },
-        )
+        let e : entries_at g B at next ≡ entry at (fragment_of id len) holder ∷ entries_at g B (at + len) then = rw (p.1, eh, en) in
+        let o = both (holder_fits g holder) (every (id_fits g) (entries_at g B (at + len) then)) (rw e at r.owners) in
+        (e, o.0, record { readable = rw en at p.0; owners = o.1 })
 
     over_owned : eqb at next ≡ false → (held_by 0 (entries_at g B at next) ≡ held_by 0 (entries_at g B (at + len) next)) × ReadsAt g B (at + len) next
     over_owned t =
         let p = past (owned id) next (rw t refl) (rw t refl) in
-        (ap (held_by 0) p.0 ∙ rw (owner_some g id p.1) refl, p.2)
+        (rw (p.0, owner_some g id p.1), p.2)
 
   -- the free fragment to which the chain has led, and where its own id leads
   pub over_free : {at : ℕ} (h : at < end_bit g) (r : ReadsAt g B at at)
@@ -75,14 +70,13 @@ module _ {g : Geometry} {B : List Bool} (pos : 0 < g.idlen) (he : end_bit g ≤ 
   all_landed next r =
       by_test (eqb next 0)
       (λ t. eqb-true next 0 t)
-      (λ t. let e : read_from g.idlen (end_bit g) (end_bit g) next B ≡ none = rw (slice_empty (end_bit g) B, t) refl in
-      absurd (subst (λ (x : Option (List Entry)). CanRead x) e r.readable))
+      (λ t. absurd (rw (slice_empty (end_bit g) B, t) at r.readable))
 
   leads_at_end : (at next : ℕ) → at ≡ end_bit g → ReadsAt g B at next → Leads g B at next
   leads_at_end at next e r =
-      let z = all_landed next (subst (λ (x : ℕ). ReadsAt g B x next) e r) in
+      let z = all_landed next (rw e at r) in
       record {
-        nowhere = λ k. ap (λ (x : ℕ). held_by 0 (entries_at g B x next)) e ∙ ap (held_by 0) (none_read g.idlen (end_bit g) next B);
+        nowhere = λ k. rw (e, none_read g.idlen (end_bit g) next B);
         low = λ k. absurd (k z);
         inside = λ k. absurd (k z);
         reads = λ k. absurd (k z);
@@ -100,8 +94,8 @@ module _ {g : Geometry} {B : List Bool} (pos : 0 < g.idlen) (he : end_bit g ≤ 
         nowhere = λ z. absurd (omega arith);
         low = λ z. omega arith;
         inside = λ z. omega arith;
-        reads = λ z. subst (λ (x : ℕ). ReadsAt g B x next) k r;
-        same = λ z. ap (λ (x : ℕ). held_by 0 (entries_at g B x next)) k;
+        reads = λ z. rw k at r;
+        same = λ z. rw k;
       })
       (λ u. let o = over_owned h r u in
       let f = fragment h r in

@@ -1,1 +1,2 @@
 pub mod FreeAhead
+pub mod SpansLeft

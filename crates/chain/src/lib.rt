@@ -1,119 +1,114 @@
-// The walk over the free fragments of a map whose zones can be read. It follows each zone's chain, so fragments that are owned are not read
-// at all: what it costs grows with the free fragments, not with all of them.
+// The free fragments of a map whose zones can be read, as spans of disc bits, one at a time: `spans` and `spans_from` are the iterators that callers
+// go over. Below them is the walk along each zone's chain: fragments that are owned are not read at all, so what it costs grows with the free
+// fragments, not with all of them.
 #![tactic(auto)]
 
-ghost use Rattle.std.specs.Prelude.{◌≡◌, ◌+◌, ◌<◌, ◌≤◌};
-ghost use Rattle.bits.specs.Bits.{byte_bits};
-ghost use Rattle.geometry.specs.Places.{end_bit};
+ghost use Rattle.std.specs.Prelude.{◌≡◌, ◌≢◌, ◌+◌, ◌^◌, ◌<◌, ◌≤◌, MatchOption};
+ghost use Rattle.geometry.specs.Places.{zone_of, disc_bits};
 ghost use Rattle.model.specs.Chain.{onward};
-ghost use Rattle.model.specs.Blocks.{link_in};
-ghost use Rattle.model.specs.Rules.{zone_block};
-ghost use Rattle.fragment.specs.Reading.{id_at};
 ghost use Rattle.map.specs.Accepted.{ReadableFrom};
+ghost use Rattle.walk.specs.HeldBy.{held_from, held_between};
+ghost use Rattle.chain.specs.SpansLeft.{spans_left, LeftFrom};
 ghost use Rattle.chain.specs.FreeAhead.{StandsFree, FreeStarts, FreeAdvances, PassesTo};
 
+mod iter;
+
+pub use crate::iter::{Span, Spans};
 use fragment::link_from;
 use geometry::{BlockBit, DiscBit, Geometry};
 
-// Where a walk stands: at the free fragment that starts at `at` in a zone, or past the last zone.
+// Where a walk stands: at the free fragment that starts at `at` in a zone.
 #[derive(Clone, Copy)]
-pub struct FreeWalk {
-    pub zone: usize,
-    pub at: BlockBit,
+struct FreeWalk {
+    zone: usize,
+    at: BlockBit,
 }
 
-// The free fragment at which a walk stood, by its first disc bit and its length, and where the walk stands after it.
-#[derive(Clone, Copy)]
-pub struct FreeStep {
-    pub start: DiscBit,
-    pub len: u32,
-    pub after: FreeWalk,
+// The free spans of the zones from z on, ascending.
+#[tactic(auto, unfolding(crate::specs::SpansLeft::spans_left))]
+pub fn spans<'a>(map: &'a [u8], g: Geometry, z: usize) -> Spans<'a>
+    requires { ReadableFrom map.now g z }
+    ensures from_zone { spans_left result ≡ held_between g 0 map.now z g.zones }
+    ensures all { z ≡ 0 → spans_left result ≡ held_from g 0 map.now 0 g.zones }
+{
+    Spans {
+        map,
+        geometry: g,
+        at: from_zone(map, g, z),
+    }
 }
 
-// A walk that stands at the first free fragment of the zones from z on, or past the last zone.
-pub fn from_zone(map: &[u8], g: Geometry, z: usize) -> FreeWalk
+// The free spans of a disc bit's zone and of the zones after it, ascending, but for some that end at the bit or before it.
+#[tactic(auto, unfolding(crate::specs::SpansLeft::spans_left))]
+pub fn spans_from<'a>(map: &'a [u8], g: Geometry, d: DiscBit) -> Spans<'a>
+    requires { ReadableFrom map.now g (zone_of g d.0) × (d.0 ≤ disc_bits g) }
+    ensures { LeftFrom map.now g d.0 result }
+{
+    let first = from_zone(map, g, g.zone_of(d));
+    Spans {
+        map,
+        geometry: g,
+        at: first.map(|walk| pass_to(map, g, walk, d)),
+    }
+}
+
+// A walk that stands at the first free fragment of the zones from z on, if there is one. Its loop counts by hand since
+// must-fail/every_other_zone turns the step.
+fn from_zone(map: &[u8], g: Geometry, z: usize) -> Option<FreeWalk>
     requires { ReadableFrom map.now g z }
     ensures { FreeStarts map.now g z result }
 {
-    let zones = g.zones;
-    let mut y = z;
-    while y < zones {
-        let at = first_in(map, g, y);
+    let mut zone = z;
+    while zone < g.zones {
+        let at = zone::first_free(walk::block(map, g, zone));
         if at.0 != 0 {
-            return FreeWalk { zone: y, at };
+            return Some(FreeWalk { zone, at });
         }
-        y += 1;
+        zone += 1;
     }
-    FreeWalk {
-        zone: y,
-        at: BlockBit(0),
-    }
+    None
 }
 
-// Where the chain of zone z starts, or 0 where nothing is free in it.
-fn first_in(map: &[u8], g: Geometry, z: usize) -> BlockBit
-    requires { ReadableFrom map.now g z × (z < g.zones) }
-    ensures { result.0 ≡ onward 8 (link_in (zone_block g map.now z)) }
+// The free fragment at which a walk stands, and where the walk stands after it: the link leads to the next one, or on to the zones after this one.
+fn step(map: &[u8], g: Geometry, w: FreeWalk) -> (Span, Option<FreeWalk>)
+    requires { StandsFree map.now g w }
+    ensures { FreeAdvances map.now g w result.0 result.1 }
 {
-    let a = z * g.sector;
-    let e = a + g.sector;
-    zone::first_free(&map[a..e])
-}
-
-// The free fragment at which a walk stands. Its link leads to the next one, or on to the zones after this one.
-pub fn next(map: &[u8], g: Geometry, w: FreeWalk) -> FreeStep
-    requires { (w.zone < g.zones) × StandsFree map.now g w }
-    ensures { FreeAdvances map.now g w result }
-{
-    let z = w.zone;
-    let at = w.at;
+    let FreeWalk { zone, at } = w;
     let end = g.zone_end();
-    let a = z * g.sector;
-    let e = a + g.sector;
-    let f = fragment::whole_fragment(&map[a..e], at, end, g.idlen);
-    let start = g.disc_bit(z, at);
-    let len = f.len as u32;
-    let linked = link_from(at, f.id as usize);
-    if linked.0 != 0 {
-        let after = FreeWalk {
-            zone: z,
-            at: linked,
-        };
-        return FreeStep { start, len, after };
+    let fragment = fragment::whole_fragment(walk::block(map, g, zone), at, end, g.idlen);
+    let span = Span {
+        start: g.disc_bit(zone, at),
+        len: fragment.len as u32,
+    };
+    match linked_from(at, fragment.id) {
+        Some(at) => (span, Some(FreeWalk { zone, at })),
+        None => (span, from_zone(map, g, zone + 1)),
     }
-    let after = from_zone(map, g, z + 1);
-    FreeStep { start, len, after }
 }
 
 // A walk that has passed over free fragments of its zone which end at disc bit d or before it: while the next one starts there or before. Only
 // links are read, no lengths.
-pub fn pass_to(map: &[u8], g: Geometry, w: FreeWalk, d: DiscBit) -> FreeWalk
+fn pass_to(map: &[u8], g: Geometry, w: FreeWalk, d: DiscBit) -> FreeWalk
     requires { StandsFree map.now g w }
     ensures { PassesTo map.now g d.0 w result }
 {
-    let z = w.zone;
-    let mut at = w.at;
-    if g.zones <= z {
-        return w;
-    }
-    let mut linked = linked_from(map, g, z, at);
-    while linked.0 != 0 {
-        if d.0 < g.disc_bit(z, linked).0 {
-            return FreeWalk { zone: z, at };
+    let FreeWalk { zone, mut at } = w;
+    let block = walk::block(map, g, zone);
+    while let Some(linked) = linked_from(at, bits::number(block, at.0, g.idlen)) {
+        if d < g.disc_bit(zone, linked) {
+            break;
         }
         at = linked;
-        linked = linked_from(map, g, z, at);
     }
-    FreeWalk { zone: z, at }
+    FreeWalk { zone, at }
 }
 
-// Where the free fragment at `at` links to, or 0.
-fn linked_from(map: &[u8], g: Geometry, z: usize, at: BlockBit) -> BlockBit
-    requires { ReadableFrom map.now g z × (z < g.zones) × (at.0 + g.idlen ≤ end_bit g) }
-    ensures { result.0 ≡ onward at.0 (id_at g.idlen at.0 (byte_bits (zone_block g map.now z))) }
+// Where the id of the free fragment at `at` leads.
+fn linked_from(at: BlockBit, id: u32) -> Option<BlockBit>
+    requires { at.0 + id < 2 ^ 64 }
+    ensures { MatchOption result (onward at.0 id ≡ 0) (λ next. (next.0 ≡ onward at.0 id) × (next.0 ≢ 0)) }
 {
-    let a = z * g.sector;
-    let e = a + g.sector;
-    let id = bits::number(&map[a..e], at.0, g.idlen);
-    link_from(at, id as usize)
+    let linked = link_from(at, id as usize);
+    (linked.0 != 0).then_some(linked)
 }

@@ -14,6 +14,10 @@ pub record Carried (sum t : ℕ) : Type 0 where
   pub off : t + carries * (2 ^ 32 - 1) ≡ sum
   pub none : min 1 sum ≤ t
 
+-- no word yet
+pub none_carried : (all ahead : ℕ) → all ≡ ahead → Carried (all - ahead) 0
+none_carried all ahead e = record { carries = 0; off = omega arith; none = omega arith }
+
 -- the carries added, and w
 pub carry_more : (sum t w sum2 : ℕ) → Carried sum t → sum2 ≡ sum + w → Carried sum2 (add_carry t w)
 carry_more sum t w sum2 c e = record { carries = c.carries + t / 4294967296; off = omega arith; none = omega arith }

@@ -1,36 +1,18 @@
--- The words of a list from a place on: none after the last whole word, then a word at each turn of the loop, and
--- word 0 without its check byte at the end.
+-- The plain sum of a list's words, taken a word or a chunk of words at a time, and the zone check that comes of it.
 use mathlib.Core.Path.{◌≡◌, refl, ap}
-use mathlib.Core.List.{List, [], ◌∷◌}
-use Prim.Native.Nat.{ℕ, suc, ◌+◌, ◌-◌, ◌*◌, ◌/◌, ◌^◌, ◌<◌, ◌≤◌}
+use mathlib.Core.List.{List, [], ◌∷◌, ◌++◌}
+use Prim.Native.Nat.{ℕ, zero, suc, ◌+◌, ◌*◌, ◌^◌, ◌<◌, ◌≤◌, min}
 use native.Mathlib.Omega.{arith}
-use native.Mathlib.Numerals.{add-one, add-two, add-three, add-four}
-use lib.ListN.{length, get_or, drop, length-drop}
-use lib.Seq.{drop-cons, get_or-drop}
+use lib.ListN.{length, get_or, take, drop, length-append, length-drop}
+use lib.Seq.{slice, get_or-drop}
+use Rattle.std.proofs.lemmas.List.{append-nil}
+use Rattle.bits.specs.Bits.{value, byte_bits, Bytes}
+use Rattle.bits.proofs.Words.{word_bytes}
 use Rattle.checks.specs.Words.{word, words_of, total, add_carry, fold_bytes, zone_check}
-use Rattle.checks.specs.Sums.{sum_of, sum_from}
+use Rattle.checks.specs.Sums.{sum_of}
 use Rattle.checks.proofs.Carries.{Carried, carry_more, total_carried, total_lt, one_carry}
 
-abbrev pub word_at : List ℕ → ℕ → ℕ
-word_at s i = word (get_or s i 0) (get_or s (i + 1) 0) (get_or s (i + 2) 0) (get_or s (i + 3) 0)
-
-pub drop_four : (s : List ℕ) (i : ℕ) → i + 4 ≤ length s
-    → drop i s ≡ get_or s i 0 ∷ get_or s (i + 1) 0 ∷ get_or s (i + 2) 0 ∷ get_or s (i + 3) 0 ∷ drop (i + 4) s
-drop_four s i h =
-    let h0 : i < length s = omega arith in
-    let h1 : suc i < length s = omega arith in
-    let h2 : suc (suc i) < length s = omega arith in
-    let h3 : suc (suc (suc i)) < length s = omega arith in
-    rw (add-one, add-two, add-three, add-four, drop-cons s i 0, drop-cons s (suc i) 0, drop-cons s (suc (suc i)) 0, drop-cons s (suc (suc (suc i))) 0)
-
--- fewer than four bytes stand after the last whole word
-pub after_words : (s : List ℕ) → length (drop (length s / 4 * 4) s) < 4
-after_words s = omega (arith, length-drop (length s / 4 * 4) s)
-
--- a list with no whole word has none with its first byte as 0 either
-pub first_short : (s : List ℕ) → length s / 4 * 4 ≡ 0 → length (0 ∷ drop 1 s) < 4
-first_short s h = omega (arith, length-drop 1 s)
-
+-- fewer than four bytes have no word
 words_short : (s : List ℕ) → length s < 4 → words_of s ≡ []
 unfolding words_of
 words_short [] h = refl
@@ -39,33 +21,71 @@ words_short (a ∷ b ∷ []) h = refl
 words_short (a ∷ b ∷ c ∷ []) h = refl
 words_short (a ∷ b ∷ c ∷ d ∷ s) h = absurd (omega arith)
 
-words_first : (s : List ℕ) → 4 ≤ length s → words_of (0 ∷ drop 1 s) ≡ (word_at s 0 - get_or s 0 0) ∷ words_of (drop 4 s)
-unfolding words_of
-words_first [] h = absurd (omega arith)
-words_first (a ∷ []) h = absurd (omega arith)
-words_first (a ∷ b ∷ []) h = absurd (omega arith)
-words_first (a ∷ b ∷ c ∷ []) h = absurd (omega arith)
-words_first (a ∷ b ∷ c ∷ d ∷ s) h = ap (λ (w : ℕ). w ∷ words_of s) (omega arith)
+pub sum_short : (s : List ℕ) → length s < 4 → sum_of (words_of s) ≡ 0
+unfolding sum_of
+sum_short s h = rw (words_short s h)
 
--- word i, and the words after it
-pub sum_turn : (s : List ℕ) (i w : ℕ) → i + 4 ≤ length s → w ≡ word_at s i → sum_from s i ≡ sum_from s (i + 4) + w
+four_bytes : (a b c d : ℕ) → a < 256 → b < 256 → c < 256 → d < 256 → (j : ℕ) → get_or (a ∷ b ∷ c ∷ d ∷ []) j 0 < 256
+four_bytes a b c d ha hb hc hd zero = ha
+four_bytes a b c d ha hb hc hd (suc zero) = hb
+four_bytes a b c d ha hb hc hd (suc (suc zero)) = hc
+four_bytes a b c d ha hb hc hd (suc (suc (suc zero))) = hd
+four_bytes a b c d ha hb hc hd (suc (suc (suc (suc j)))) = omega arith
+
+-- a word more: the number that its bits spell
+pub word_turn : (s w rest : List ℕ) → Bytes s → length w ≡ 4 → s ≡ w ++ rest
+    → (sum_of (words_of s) ≡ sum_of (words_of rest) + value (slice 0 32 (byte_bits w))) × Bytes rest
 unfolding sum_of words_of
-sum_turn s i w h e = rw (drop_four s i h, e)
+word_turn s [] rest h l e = absurd (omega arith)
+word_turn s (a ∷ []) rest h l e = absurd (omega arith)
+word_turn s (a ∷ b ∷ []) rest h l e = absurd (omega arith)
+word_turn s (a ∷ b ∷ c ∷ []) rest h l e = absurd (omega arith)
+word_turn s (a ∷ b ∷ c ∷ d ∷ []) rest h l e =
+    let k = rw e at h in
+    let n = word_bytes (a ∷ b ∷ c ∷ d ∷ []) (four_bytes a b c d k.0 k.1.0 k.1.1.0 k.1.1.1.0) 0 in
+    (rw e (omega (arith, n)), k.1.1.1.1)
+word_turn s (a ∷ b ∷ c ∷ d ∷ x ∷ w) rest h l e = absurd (omega arith)
 
-pub check_start : (s : List ℕ) → Carried (sum_from s (length s / 4 * 4)) 0
-unfolding total sum_of
-check_start s = rw (words_short (drop (length s / 4 * 4) s) (after_words s)) (total_carried [])
+-- words and those after them
+sum_append : (n : ℕ) (s rest : List ℕ) → length s ≡ 4 * n → sum_of (words_of (s ++ rest)) ≡ sum_of (words_of rest) + sum_of (words_of s)
+unfolding sum_of words_of
+sum_append zero [] rest h = omega arith
+sum_append zero (a ∷ s) rest h = absurd (omega arith)
+sum_append (suc n) [] rest h = absurd (omega arith)
+sum_append (suc n) (a ∷ []) rest h = absurd (omega arith)
+sum_append (suc n) (a ∷ b ∷ []) rest h = absurd (omega arith)
+sum_append (suc n) (a ∷ b ∷ c ∷ []) rest h = absurd (omega arith)
+sum_append (suc n) (a ∷ b ∷ c ∷ d ∷ s) rest h = omega (arith, sum_append n s rest (omega arith))
 
-pub check_end : (s : List ℕ) (i t w a : ℕ) → ((j : ℕ) → get_or s j 0 < 256) → i ≡ 4 → i ≤ length s → t < 2 ^ 44
-    → Carried (sum_from s i) t → w ≡ word_at s 0 → a ≡ get_or s 0 0 → fold_bytes (add_carry (add_carry t 0) (w - a)) ≡ zone_check s
+-- a chunk more: it is short only where it is the last
+pub chunk_turn : (s chunk rest : List ℕ) → s ≡ chunk ++ rest → length chunk ≡ min 4096 (length s)
+    → sum_of (words_of s) ≡ sum_of (words_of rest) + sum_of (words_of chunk)
+chunk_turn s chunk [] e h = rw (e, append-nil chunk) (omega (arith, sum_short [] (omega arith)))
+chunk_turn s chunk (x ∷ rest) e h =
+    let l = length-append chunk (x ∷ rest) in
+    rw e (sum_append 1024 chunk (x ∷ rest) (omega (arith, ap length e, l)))
+
+-- word 0, whose first byte counts as 0
+words_first : (s first : List ℕ) → 4 ≤ length s → first ≡ take 4 s
+    → words_of (0 ∷ drop 1 s) ≡ word 0 (get_or first 1 0) (get_or first 2 0) (get_or first 3 0) ∷ words_of (drop 4 s)
+unfolding words_of
+words_first [] first h e = absurd (omega arith)
+words_first (a ∷ []) first h e = absurd (omega arith)
+words_first (a ∷ b ∷ []) first h e = absurd (omega arith)
+words_first (a ∷ b ∷ c ∷ []) first h e = absurd (omega arith)
+words_first (a ∷ b ∷ c ∷ d ∷ s) first h e = rw e
+
+pub check_end : (s first : List ℕ) (t w : ℕ) → ((j : ℕ) → get_or s j 0 < 256) → 4 ≤ length s → t < 2 ^ 44
+    → Carried (sum_of (words_of (drop 4 s))) t → first ≡ take 4 s → w ≡ word 0 (get_or first 1 0) (get_or first 2 0) (get_or first 3 0)
+    → fold_bytes (add_carry (add_carry t 0) w) ≡ zone_check s
 unfolding zone_check total
-check_end s i t w a byte e l ht c ew ea =
+check_end s first t w byte h ht c f e =
     let ws = words_of (drop 4 s) in
-    let once = carry_more (sum_of ws) t 0 (sum_of ws) (rw e at c) (omega arith) in
+    let once = carry_more (sum_of ws) t 0 (sum_of ws) c (omega arith) in
     let lt = total_lt (drop 4 s) (λ j. rw (get_or-drop 4 s j 0) (byte (4 + j))) in
-    let q = one_carry (sum_of ws) (add_carry t 0) (total ws) (w - a) once (total_carried ws) (omega arith) lt in
-    rw (words_first s (omega arith), q, ew, ea)
+    let q = one_carry (sum_of ws) (add_carry t 0) (total ws) w once (total_carried ws) (omega arith) lt in
+    rw (words_first s first h f, q, e)
 
-pub check_short : (s : List ℕ) → length s / 4 * 4 ≡ 0 → 0 ≡ zone_check s
+pub check_short : (s : List ℕ) → length s < 4 → 0 ≡ zone_check s
 unfolding zone_check total
-check_short s h = rw (words_short (0 ∷ drop 1 s) (first_short s h))
+check_short s h = rw (words_short (0 ∷ drop 1 s) (omega (arith, length-drop 1 s)))

@@ -11,46 +11,41 @@
 #![tactic(auto)]
 
 ghost use Rattle.std.specs.Prelude.{◌≡◌, ◌+◌, ◌-◌, ◌%◌, ◌^◌, ◌<◌, ◌≤◌, length};
-ghost use Rattle.checks.specs.Words.{add_carry, fold_bytes, zone_check};
-ghost use Rattle.checks.specs.Sums.{sum_from};
-ghost use Rattle.checks.specs.Columns.{no_sums, added, fold_columns, column_check};
+ghost use Rattle.checks.specs.Words.{words_of, add_carry, fold_bytes, zone_check};
+ghost use Rattle.checks.specs.Sums.{sum_of};
+ghost use Rattle.checks.specs.Columns.{added, fold_columns, column_check};
 ghost use Rattle.checks.specs.Cross.{amount};
 ghost use Rattle.checks.specs.Laws.{CheckLaws};
 
 // How many bytes' words are added up before their carries are: the sum of so many stays far below 2^64.
 const CHUNK: usize = 4096;
 
-// The zone check of a block, by 32-bit words from the last one down. To add with the carry is to add modulo 2^32 - 1, so the carries may
-// wait: a chunk of words is added up plainly, and its carries are added after it. Before word 0 they are added a second time, since the first
-// may carry again. The carry out of word 0 is dropped.
+// The zone check of a block, by 32-bit words. To add with the carry is to add modulo 2^32 - 1, so the carries may wait, and the words may come
+// in any order: a chunk of words is added up plainly, and its carries are added after it. Before word 0 they are added a second time, since the
+// first may carry again. The carry out of word 0 is dropped.
 pub fn zone_check(block: &[u8]) -> u8
     ensures { result ≡ zone_check block.now }
 {
-    let mut t = 0;
-    let mut i = block.len() / 4 * 4;
-    if i == 0 {
+    let Some((head, others)) = block.split_first_chunk::<4>() else {
         return 0;
+    };
+    let mut t = 0;
+    for chunk in others.chunks(CHUNK) {
+        t = add_carry(t, word_sum(chunk));
     }
-    while 4 < i {
-        let from = bits::minus(i, CHUNK + 4) + 4;
-        t = add_carry(t, word_sum(block, from, i));
-        i = from;
-    }
-    let word = bits::word32(block, 0);
-    let first = word - bits::wide(block[0]);
+    // The check byte itself counts as 0.
+    let first = u32::from_le_bytes([0, head[1], head[2], head[3]]) as usize;
     fold_bytes(add_carry(add_carry(t, 0), first))
 }
 
-// The plain sum of the words from byte `from` to byte `to`: what the sum from `from` on has over that from `to` on.
-fn word_sum(block: &[u8], from: usize, to: usize) -> usize
-    requires { (from ≤ to) × (to ≤ from + 4096) × (to ≤ length block.now) × ((to - from) % 4 ≡ 0) }
-    ensures { (sum_from block.now from ≡ sum_from block.now to + result) × (result < 2 ^ 43) }
+// The plain sum of a chunk's words.
+fn word_sum(chunk: &[u8]) -> usize
+    requires { length chunk.now ≤ 4096 }
+    ensures { (result ≡ sum_of (words_of chunk.now)) × (result < 2 ^ 43) }
 {
     let mut t = 0;
-    let mut i = from;
-    while i < to {
-        t += bits::word32(block, i);
-        i += 4;
+    for word in chunk.chunks_exact(4) {
+        t += bits::word32(word, 0);
     }
     t
 }
@@ -67,15 +62,12 @@ fn add_carry(t: usize, w: usize) -> usize
 fn fold_bytes(t: usize) -> u8
     ensures { result ≡ fold_bytes t }
 {
-    let a = (t % 256) as u8;
-    let b = (t / 256 % 256) as u8;
-    let c = (t / 65536 % 256) as u8;
-    let d = (t / 16777216 % 256) as u8;
+    let [a, b, c, d, ..] = t.to_le_bytes();
     (a ^ b) ^ (c ^ d)
 }
 
 // The four byte columns of document 000: all but the last below 256, the last with its carry still in it.
-#[derive(Clone, Copy)]
+#[derive(Clone, Copy, Debug, Default, PartialEq, Eq)]
 pub struct Columns {
     pub v0: u32,
     pub v1: u32,
@@ -84,27 +76,15 @@ pub struct Columns {
 }
 
 impl Columns {
-    // No word added yet.
-    fn none() -> Columns
-        ensures { result ≡ no_sums }
-    {
-        Columns {
-            v0: 0,
-            v1: 0,
-            v2: 0,
-            v3: 0,
-        }
-    }
-
     // A word's bytes added.
     fn add(self, a: u8, b: u8, c: u8, d: u8) -> Columns
         requires { (self.v0 < 256) × (self.v1 < 256) × (self.v2 < 256) × (self.v3 < 1024) }
         ensures { result ≡ added self a b c d }
     {
-        let s0 = self.v0 + (a as u32 + self.v3 / 256);
-        let s1 = self.v1 + (b as u32 + s0 / 256);
-        let s2 = self.v2 + (c as u32 + s1 / 256);
-        let s3 = self.v3 % 256 + (d as u32 + s2 / 256);
+        let s0 = self.v0 + (u32::from(a) + self.v3 / 256);
+        let s1 = self.v1 + (u32::from(b) + s0 / 256);
+        let s2 = self.v2 + (u32::from(c) + s1 / 256);
+        let s3 = self.v3 % 256 + (u32::from(d) + s2 / 256);
         Columns {
             v0: s0 % 256,
             v1: s1 % 256,
@@ -125,32 +105,25 @@ impl Columns {
 pub fn column_check(block: &[u8]) -> u8
     ensures { result ≡ column_check block.now }
 {
-    let mut k = Columns::none();
-    let mut i = block.len() / 4 * 4;
-    if i == 0 {
+    let Some((head, others)) = block.split_first_chunk::<4>() else {
         return 0;
+    };
+    let mut k = Columns::default();
+    for word in others.chunks_exact(4).rev() {
+        k = k.add(word[0], word[1], word[2], word[3]);
     }
-    while 4 < i {
-        i -= 4;
-        k = k.add(block[i], block[i + 1], block[i + 2], block[i + 3]);
-    }
-    k.add(0, block[1], block[2], block[3]).fold()
+    k.add(0, head[1], head[2], head[3]).fold()
 }
 
 // What the i-th of n zones that an edit touches has its cross check exclusive-ored with, counted from 0.
 pub fn cross_change(n: usize, i: usize) -> u8
     ensures { result ≡ amount n i }
 {
-    if n <= 1 {
-        return 0;
+    match n {
+        0 | 1 => 0,
+        _ if n % 2 == 1 && i < 3 => (i + 1) as u8,
+        _ => 1,
     }
-    if n % 2 == 0 {
-        return 1;
-    }
-    if i < 3 {
-        return (i + 1) as u8;
-    }
-    1
 }
 
 // The laws of specs/Laws, as a contract: the function does nothing.

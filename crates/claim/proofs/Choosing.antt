@@ -1,6 +1,6 @@
 -- What is found is the choice: an id for the zone of the first hole, which is that of the first pair taken, and the pairs in object order. An unused id
 -- is always there.
-use mathlib.Core.Path.{◌≡◌, refl, sym, ap, ap₂, ◌∙◌}
+use mathlib.Core.Path.{◌≡◌, refl, sym, ap, ap₂, ◌∙◌, subst⁻¹}
 use mathlib.Core.List.{List, [], ◌∷◌}
 use mathlib.Core.Option.{Option, none, some}
 use Prim.Native.Nat.{ℕ, ◌*◌, ◌<◌, ◌≤◌}
@@ -15,8 +15,6 @@ use Rattle.geometry.specs.Places.{zone_of, disc_bits}
 use Rattle.model.specs.Answer.{Answer, refused, answered}
 use Rattle.model.specs.Chain.{Pair}
 use Rattle.model.specs.Shown.{pieces_on}
-use Rattle.listing.specs.declared.Listed.{Listed}
-use Rattle.listing.specs.declared.Listed.TheVariants as listed
 use Rattle.listing.specs.Listed.{with_room, list_answer, list_after}
 use Rattle.holes.specs.Passes.{holes_on}
 use Rattle.edits.specs.Edits.{Edit}
@@ -27,17 +25,19 @@ use Rattle.edits.proofs.Invariant.{some_bits, zoned_on_disc}
 use Rattle.edits.proofs.EditableMap.{map_pieces}
 use Rattle.edits.proofs.Chosen.{id_found, id_ordinary, need_long}
 use Rattle.edits.proofs.Fourteen.{no_fourteen}
-use Rattle.claim.specs.declared.Claimed.{Claimed}
-use Rattle.claim.specs.declared.Claimed.TheVariants as claimed
-use Rattle.claim.specs.Claimed.{claim_answer}
+use Rattle.std.specs.Prelude.{Result, Ok, Err}
+use Rattle.std.specs.Result.{IsErr, IsErrAnd}
+use Rattle.geometry.proofs.Results.{handed_on}
+use Rattle.claim.specs.declared.Given.{Given}
+use Rattle.claim.specs.Claimed.{given_pairs, claim_answer}
 use Rattle.claim.specs.Chosen.{first_taken, taken_first, SeveralTaken, ListsTaken, Chooses}
 use Rattle.claim.specs.Unused.{IdChosen}
 use Rattle.claim.proofs.FirstTaken.{none_taken, several, taken_is, first_zone_law, zone_inside}
 
 -- a listing's answer with the id
-abbrev pub with_id : ℕ → Listed → Claimed
-with_id id (listed.Pairs n) = claimed.Pairs id n
-with_id id (listed.Refused r) = claimed.Refused r
+abbrev pub with_id : ℕ → Result ℕ Refusal → Result Given Refusal
+with_id id (Ok n) = Ok (given_pairs id n)
+with_id id (Err r) = Err r
 
 with_room_law : (id : ℕ) (qs : List Pair) (old : List ℕ)
     → (with_id id (list_answer (with_room (length old) qs)) ≡ claim_answer (by_room (length old) (choice id qs)))
@@ -54,8 +54,8 @@ module _ {m : List ℕ} {g : Geometry} (ed : EditableMap m g) (size parent : ℕ
   chosen_none none k = absurd (no_fourteen g (pieces_on g m) ed.accepted.readable.numbers (map_pieces ed).fit k)
   chosen_none (some any) k = by_found g m size parent eb (some any) none k (none_taken ed bits parent e)
 
-  pub none_chosen : (old : List ℕ) {r : Refusal} → r ≡ refusal 15 0 → Chooses (by_choice (length old) (chosen g (pieces_on g m) size parent)) old (claimed.Refused r) old
-  none_chosen old er = rw (chosen_none (lowest_id g (unused (pieces_on g m))) refl) (record { answer = ap claimed.Refused er; list = refl })
+  pub none_chosen : (old : List ℕ) {r : Refusal} → r ≡ refusal 15 0 → Chooses (by_choice (length old) (chosen g (pieces_on g m) size parent)) old (Err r) old
+  none_chosen old er = rw (chosen_none (lowest_id g (unused (pieces_on g m))) refl) (record { answer = ap Err er; list = refl })
 
 -- the first hole that is taken for a claim of some size near a zone of the disc
 pub record FirstFound (m : List ℕ) (g : Geometry) (size parent bits : ℕ) (h : Pair) : Type 0 where
@@ -81,7 +81,7 @@ module _ {m : List ℕ} {g : Geometry} {size parent bits : ℕ} {h : Pair} (f : 
     pub id_low : 3 ≤ id
     id_low = omega (arith, i.chosen, (id_ordinary g (pieces_on g m) (zone_of g h.start) _ (id_found g (pieces_on g m) i.any (h ∷ []) i.any_lowest)).0)
 
-    module _ {old new : List ℕ} {r : Listed} (t : ListsTaken (taken_first g.shortest bits h (holes_on g m)) g id old r new) where
+    module _ {old new : List ℕ} {r : Result ℕ Refusal} (t : ListsTaken (taken_first g.shortest bits h (holes_on g m)) g id old r new) where
       chosen_is : chosen g (pieces_on g m) size parent ≡ answered (choice id (in_object_order g id t.taken))
       chosen_is =
           let l = pieces_on g m in
@@ -91,7 +91,7 @@ module _ {m : List ℕ} {g : Geometry} {size parent bits : ℕ} {h : Pair} (f : 
           by_found g m size parent f.bits_are (some i.any) (some t.taken) i.any_lowest k
           ∙ ap (λ (x : ℕ). answered (choice x (in_object_order g x t.taken))) e
 
-      pub list_chosen : {x : Listed} → r ≡ x → Chooses (by_choice (length old) (chosen g (pieces_on g m) size parent)) old (with_id id x) new
+      pub list_chosen : {x : Result ℕ Refusal} → r ≡ x → Chooses (by_choice (length old) (chosen g (pieces_on g m) size parent)) old (with_id id x) new
       list_chosen e =
           let w = with_room_law id (in_object_order g id t.taken) old in
           let c = ap (by_choice (length old)) chosen_is in
@@ -99,3 +99,8 @@ module _ {m : List ℕ} {g : Geometry} {size parent bits : ℕ} {h : Pair} (f : 
             answer = ap (with_id id) (sym e ∙ t.lists.answer) ∙ w.0 ∙ ap claim_answer (sym c);
             list = t.lists.list ∙ w.1 ∙ ap (λ (o : Answer Edit). list_after old (pairs_told o)) (sym c);
           }
+
+      -- a refusal that a `?` hands on
+      pub refusal_chosen : {e : Refusal} → r ≡ Err e → {q : Result Given Refusal} → IsErr q × IsErrAnd q (λ y. y ≡ e)
+          → Chooses (by_choice (length old) (chosen g (pieces_on g m) size parent)) old q new
+      refusal_chosen e {q} k = subst⁻¹ (λ (x : Result Given Refusal). Chooses (by_choice (length old) (chosen g (pieces_on g m) size parent)) old x new) (handed_on q k) (list_chosen e)

@@ -2,9 +2,8 @@
 -- that the id has nothing in all zones.
 use mathlib.Core.Path.{◌≡◌, sym, ap, ◌∙◌, subst}
 use mathlib.Core.Bool.{Bool, true, false, ◌&&◌}
-use mathlib.Core.List.{List, ◌++◌}
+use mathlib.Core.List.{List, [], ◌∷◌, ◌++◌}
 use Prim.Native.Nat.{ℕ, ◌+◌, ◌-◌, ◌*◌, ◌<◌, ◌≤◌}
-use native.Mathlib.Nat.{sub-zero}
 use native.Mathlib.Omega.{arith}
 use lib.Dec.{eqb, ltb, leb}
 use lib.ListN.{length, get_or}
@@ -15,12 +14,10 @@ use Rattle.bits.proofs.Tests.{by_test, both, and_with_true, and_with_false}
 use Rattle.bits.proofs.Bytes.{length_byte_bits}
 use Rattle.geometry.specs.declared.Geometry.{Geometry}
 use Rattle.model.specs.Chain.{Pair}
-use Rattle.walk.specs.declared.Walk.{Walk}
 use Rattle.walk.specs.declared.Line.{Line}
-use Rattle.walk.specs.declared.Step.{Step}
-use Rattle.walk.specs.Remaining.{remaining, Starts, Advances}
+use Rattle.walk.specs.Remaining.{lines_from}
 use Rattle.walk.specs.HeldBy.{held_lines, held_from, pair_if}
-use Rattle.walk.proofs.HeldLines.{held_starts, held_step, held_none}
+use Rattle.walk.proofs.HeldLines.{held_whole, held_line}
 use Rattle.edits.specs.Judge.{is_empty}
 use Rattle.claim.specs.Unused.{cleared_bit, ClearedIn}
 
@@ -51,25 +48,22 @@ abbrev pub ClearedSoFar : (ℕ → List Pair) → List Line → ℕ → ℕ → 
 ClearedSoFar held rest from to old new =
     (id : ℕ) → from ≤ id → id < to → get_or (byte_bits new) (id - from) false && is_empty (held_lines id rest) ≡ get_or (byte_bits old) (id - from) false && is_empty (held id)
 
-module _ {m : List ℕ} {g : Geometry} (from to : ℕ) (old : List ℕ) where
-  pub none_cleared : {w : Walk} → Starts m g 0 w → ClearedSoFar (λ id. held_from g id m 0 g.zones) (remaining m g g.zones w) from to old old
-  none_cleared s id l h =
-      ap (λ (qs : List Pair). get_or (byte_bits old) (id - from) false && is_empty qs)
-      (held_starts id s g.zones (omega arith) ∙ ap (held_from g id m 0) (sub-zero g.zones))
+pub none_cleared : {xs : List Line} (g : Geometry) (m : List ℕ) (from to : ℕ) (old : List ℕ) → xs ≡ lines_from g m 0 (g.zones - 0)
+    → ClearedSoFar (λ id. held_from g id m 0 g.zones) xs from to old old
+none_cleared g m from to old e id l h = ap (λ (qs : List Pair). get_or (byte_bits old) (id - from) false && is_empty qs) (held_whole id g m g.zones e)
 
-  pub line_cleared : {w : Walk} {r : Step} → Advances m g w r → w.zone < g.zones → (held : ℕ → List Pair) (bytes next : List ℕ) → to ≤ from + length bytes * 8
-      → byte_bits next ≡ cleared_bit from to r.line.holder (byte_bits bytes)
-      → ClearedSoFar held (remaining m g g.zones w) from to old bytes → ClearedSoFar held (remaining m g g.zones r.after) from to old next
-  line_cleared {r = r} a k held bytes next room e so id l h =
-      let rest = held_lines id (remaining m g g.zones r.after) in
-      ap (λ (x : List Bool). get_or x (id - from) false && is_empty rest) e
-      ∙ line_bit from to id r.line.holder l h (byte_bits bytes) (omega (arith, length_byte_bits bytes)) r.line.start.0 r.line.len rest
-      ∙ ap (λ (qs : List Pair). get_or (byte_bits bytes) (id - from) false && is_empty qs) (sym (held_step id a g.zones (omega arith) k))
+module _ (held : ℕ → List Pair) (from to : ℕ) (old bytes : List ℕ) {xs : List Line} where
+  pub line_cleared : {ys : List Line} {k : Line} (next : List ℕ) → xs ≡ k ∷ ys → to ≤ from + length bytes * 8 → byte_bits next ≡ cleared_bit from to k.holder (byte_bits bytes)
+      → ClearedSoFar held xs from to old bytes → ClearedSoFar held ys from to old next
+  line_cleared {ys} {k} next e room b so id l h =
+      let rest = held_lines id ys in
+      ap (λ (x : List Bool). get_or x (id - from) false && is_empty rest) b
+      ∙ line_bit from to id k.holder l h (byte_bits bytes) (omega (arith, length_byte_bits bytes)) k.start.0 k.len rest
+      ∙ ap (λ (qs : List Pair). get_or (byte_bits bytes) (id - from) false && is_empty qs) (sym (held_line id e))
       ∙ so id l h
 
-pub all_cleared : (m : List ℕ) (g : Geometry) (w : Walk) → g.zones ≤ w.zone → (held : ℕ → List Pair) (from to : ℕ) (old new : List ℕ)
-    → ClearedSoFar held (remaining m g g.zones w) from to old new → ClearedIn held from to old new
-all_cleared m g w k held from to old new so id l h =
-    sym (and_with_true (get_or (byte_bits new) (id - from) false))
-    ∙ ap (λ (qs : List Pair). get_or (byte_bits new) (id - from) false && is_empty qs) (sym (held_none id m g g.zones w k))
-    ∙ so id l h
+  pub all_cleared : xs ≡ [] → ClearedSoFar held xs from to old bytes → ClearedIn held from to old bytes
+  all_cleared e so id l h =
+      sym (and_with_true (get_or (byte_bits bytes) (id - from) false))
+      ∙ ap (λ (ls : List Line). get_or (byte_bits bytes) (id - from) false && is_empty (held_lines id ls)) (sym e)
+      ∙ so id l h

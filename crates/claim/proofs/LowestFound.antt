@@ -16,6 +16,7 @@ use Rattle.bits.proofs.Tests.{by_test}
 use Rattle.bits.proofs.Below.{at}
 use Rattle.bits.proofs.Bytes.{bit_at, length_byte_bits}
 use Rattle.geometry.specs.declared.Geometry.{Geometry}
+use Rattle.geometry.specs.Accepted.{AcceptedGeometry}
 use Rattle.geometry.specs.Places.{start_zone}
 use Rattle.geometry.proofs.Starts.{start_in_range}
 use Rattle.model.specs.Pieces.{pieces_of, object_pairs, pieces_of_zones}
@@ -26,9 +27,9 @@ use Rattle.walk.proofs.ZonesTouching.{zones_are}
 use Rattle.walk.proofs.HeldZones.{held_all}
 use Rattle.listing.proofs.ObjectOrder.{in_object_order}
 use Rattle.edits.specs.Judge.{is_empty, lowest, unused}
-use Rattle.edits.specs.EditableMap.{EditableMap}
 use Rattle.edits.proofs.PairsCounted.{pairs_count}
-use Rattle.claim.specs.Unused.{ClearedIn, Window, UnusedIn}
+use Rattle.std.specs.Bool.{then_some}
+use Rattle.claim.specs.Unused.{found, ClearedIn, Window}
 
 -- an id's pieces are as many as the fragments that it holds
 same_empty : {A B : Type 0} (xs : List A) (ys : List B) → length xs ≡ length ys → is_empty xs ≡ is_empty ys
@@ -97,23 +98,21 @@ module _ {m : List ℕ} {g : Geometry} (a : AcceptedMap m g) {from to : ℕ} (w 
       ∙ ap (λ (b : Bool). b && is_empty (held_from g i m 0 g.zones)) (full_bit 16384 (i - from) (omega (arith, w.few)))
       ∙ held_empty a i (omega (arith, w.low)) (omega (arith, w.high))
 
-  pub unused_found : (z r : ℕ) → z ≡ zeros (slice 0 (to - from) (byte_bits left)) → 0 + z ≤ to - from → r ≡ from + z → UnusedIn (pieces_on g m) from to r
-  unused_found z r ez hz er = record {
-    low = omega arith;
-    high = omega (arith, w.in_order);
-    least =
-        lowest_found (unused (pieces_on g m)) (byte_bits left) (to - from) 0 from (omega (arith, length_byte_bits left, w.few)) id_bit
-        ∙ ap (λ (x : ℕ). id_at (to - from) (zeros (slice 0 x (byte_bits left))) from) (zero-add (to - from))
-        ∙ ap (λ (x : ℕ). id_at (to - from) x from) (sym ez)
-        ∙ by_test (ltb z (to - from))
-        (λ t. rw (t, lt-ltb r to (omega (arith, ltb-true z (to - from) t, w.in_order))) (ap some (sym er)))
-        (λ t. rw (t, le-ltb r to (omega (arith, ltb-false z (to - from) t))));
-  }
+  pub unused_found : (z : ℕ) → z ≡ zeros (slice 0 (to - from) (byte_bits left)) → 0 + z ≤ to - from
+      → then_some (ltb (from + z) to) (from + z) ≡ found (lowest (unused (pieces_on g m)) (to - from) from)
+  unused_found z ez hz =
+      let e : lowest (unused (pieces_on g m)) (to - from) from ≡ id_at (to - from) z from =
+      lowest_found (unused (pieces_on g m)) (byte_bits left) (to - from) 0 from (omega (arith, length_byte_bits left, w.few)) id_bit
+      ∙ ap (λ (x : ℕ). id_at (to - from) (zeros (slice 0 x (byte_bits left))) from) (zero-add (to - from))
+      ∙ ap (λ (x : ℕ). id_at (to - from) x from) (sym ez) in
+      by_test (ltb z (to - from))
+      (λ t. rw (e, t, lt-ltb (from + z) to (omega (arith, ltb-true z (to - from) t, w.in_order))))
+      (λ t. rw (e, t, le-ltb (from + z) to (omega (arith, ltb-false z (to - from) t))))
 
 -- how many ids there are
-module _ {m : List ℕ} {g : Geometry} (ed : EditableMap m g) where
+module _ {g : Geometry} (ok : AcceptedGeometry g) where
   pub ids_some : 25 ≤ g.ids * g.zones
-  ids_some = mul-le-mul ed.accepted.readable.numbers.ids_low ed.accepted.readable.numbers.zones_low
+  ids_some = mul-le-mul ok.ids_low ok.zones_low
 
   pub ids_small : g.ids * g.zones ≤ 524288
-  ids_small = omega (arith, ed.accepted.readable.numbers.ids_fit, pow_mono {i = g.idlen} {j = 19} ed.accepted.readable.numbers.idlen_high)
+  ids_small = omega (arith, ok.ids_fit, pow_mono {i = g.idlen} {j = 19} ok.idlen_high)

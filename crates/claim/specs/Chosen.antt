@@ -8,13 +8,14 @@ use Rattle.model.specs.Chain.{Pair, pair}
 use Rattle.model.specs.Shown.{pieces_on}
 use Rattle.split.specs.Taken.{total, by_size, cut, take_from}
 use Rattle.split.specs.Threshold.{at_least, first_longest}
-use Rattle.listing.specs.declared.Listed.{Listed}
 use Rattle.listing.specs.Listed.{with_room, list_after, Lists}
 use Rattle.holes.specs.Passes.{holes_on}
 use Rattle.edits.specs.Edits.{Edit}
 use Rattle.edits.specs.Judge.{first_hole, holes_near, in_object_order}
 use Rattle.edits.specs.Steps.{pairs_told}
-use Rattle.claim.specs.declared.Claimed.{Claimed}
+use Rattle.std.specs.Prelude.{Result}
+use Rattle.geometry.specs.declared.Refusal.{Refusal}
+use Rattle.claim.specs.declared.Given.{Given}
 use Rattle.claim.specs.Claimed.{claim_answer}
 
 -- the nearest hole that is long enough; or, if there is none and all together have enough bits, the first one of the longest
@@ -36,12 +37,12 @@ pub record SeveralTaken (hs : List Pair) (need longest : ℕ) : Type 0 where
   pub longest_is : at_least (suc longest) hs ≡ 0
 
 -- what is taken, listed in object order for an id
-pub record ListsTaken (o : Option (List Pair)) (g : Geometry) (id : ℕ) (old : List ℕ) (r : Listed) (new : List ℕ) : Type 0 where
+pub record ListsTaken (o : Option (List Pair)) (g : Geometry) (id : ℕ) (old : List ℕ) (r : Result ℕ Refusal) (new : List ℕ) : Type 0 where
   pub taken : List Pair
   pub taken_is : o ≡ some taken
   pub lists : Lists (with_room (length old) (in_object_order g id taken)) old r new
 
 -- the id and how many pairs are to be given, with their list, or the refusal
-pub record Chooses (o : Answer Edit) (old : List ℕ) (r : Claimed) (new : List ℕ) : Type 0 where
+pub record Chooses (o : Answer Edit) (old : List ℕ) (r : Result Given Refusal) (new : List ℕ) : Type 0 where
   pub answer : r ≡ claim_answer o
   pub list : new ≡ list_after old (pairs_told o)

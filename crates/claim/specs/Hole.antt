@@ -1,9 +1,13 @@
 -- A hole that was looked for, or none (document 01, "Claim"; document 02, R-8). Assumes nothing.
-use Rattle.std.proofs.Math.Option.{Option, none, some}
+use Rattle.std.specs.Prelude.{Option, Some, None}
+use Rattle.std.proofs.Math.Option as math
+use Rattle.std.proofs.Math.Option.{none, some}
 use Rattle.model.specs.Chain.{Pair}
-use Rattle.claim.specs.declared.Hole.{Hole}
-use Rattle.claim.specs.declared.Hole.TheVariants as found
+use Rattle.chain.specs.declared.iter.Span.{Span}
 
-abbrev pub hole_of : Option Pair → Hole
-hole_of none = found.None
-hole_of (some q) = found.At (record { 0 = q.start }) q.len
+abbrev pub span_of : Pair → Span
+span_of q = record { start = record { 0 = q.start }; len = q.len }
+
+abbrev pub hole_of : math.Option Pair → Option Span
+hole_of none = None
+hole_of (some q) = Some (span_of q)

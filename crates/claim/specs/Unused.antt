@@ -1,12 +1,18 @@
 -- The unused ids of a window, `from` to `to` - 1, by a bit for each, the first for id `from`, and the id for a zone (document 02, R-6: "the lowest
 -- unused one from 3 whose start zone is the chosen zone"). Assumes nothing.
-use Rattle.std.specs.Prelude.{◌≡◌, Bool, false, cond, ◌&&◌, List, ℕ, ◌+◌, ◌-◌, ◌*◌, ◌<◌, ◌≤◌, ltb, leb, get_or, set}
+use Rattle.std.specs.Prelude.{◌≡◌, Bool, false, cond, ◌&&◌, List, ℕ, ◌+◌, ◌-◌, ◌*◌, ◌<◌, ◌≤◌, ltb, leb, get_or, set, Option, Some, None}
+use Rattle.std.proofs.Math.Option as math
 use Rattle.std.proofs.Math.Option.{none, some}
 use Rattle.bits.specs.Bits.{byte_bits}
 use Rattle.geometry.specs.declared.Geometry.{Geometry}
 use Rattle.model.specs.Chain.{Pair}
 use Rattle.model.specs.Pieces.{Piece}
-use Rattle.edits.specs.Judge.{is_empty, lowest, lowest_id, unused, unused_of, or_any}
+use Rattle.edits.specs.Judge.{is_empty, lowest_id, unused, unused_of, or_any}
+
+-- an id that was looked for, as the code answers it
+abbrev pub found : math.Option ℕ → Option ℕ
+found none = None
+found (some id) = Some id
 
 -- the bits after the one of this id was cleared, if it has one
 abbrev pub cleared_bit : ℕ → ℕ → ℕ → List Bool → List Bool
@@ -23,12 +29,6 @@ pub record Window (g : Geometry) (from to : ℕ) : Type 0 where
   pub in_order : from ≤ to
   pub high : to ≤ g.ids * g.zones
   pub few : to ≤ from + 131072
-
--- r is the lowest unused id of the window, or its end where there is none
-pub record UnusedIn (l : List Piece) (from to r : ℕ) : Type 0 where
-  pub low : from ≤ r
-  pub high : r ≤ to
-  pub least : lowest (unused l) (to - from) from ≡ cond (ltb r to) (some r) none
 
 -- r is the id for a piece in zone z
 pub record IdChosen (g : Geometry) (l : List Piece) (z r : ℕ) : Type 0 where

@@ -7,13 +7,15 @@ use Rattle.model.specs.Refusals.{Refusing, line, ByTable, Exactly}
 use Rattle.model.specs.Rules.{MapRules}
 use Rattle.model.specs.Table.{Judged}
 use Rattle.listing.specs.Listed.{object_found}
+use Rattle.copies.specs.declared.Which.{Which}
+use Rattle.copies.specs.declared.Which.TheVariants.{First, Second}
 use Rattle.copies.specs.declared.Addresses.{Addresses}
-use Rattle.copies.specs.Copies.{Copy, first, second, copy_found, handed_back, same_bytes, copy_judged, copies_of, addresses_found}
+use Rattle.copies.specs.Copies.{copy_found, handed_back, same_bytes, copy_judged, copies_of, addresses_found}
 
 -- "the first if it is accepted, else the second, else the first's refusal", in terms of the rules
-pub data ChoiceSays (a b : List ℕ) : Answer Copy → Type 0 where
-  the_first : MapRules a → ChoiceSays a b (answered first)
-  the_second : (MapRules a → ⊥) → MapRules b → ChoiceSays a b (answered second)
+pub data ChoiceSays (a b : List ℕ) : Answer Which → Type 0 where
+  the_first : MapRules a → ChoiceSays a b (answered First)
+  the_second : (MapRules a → ⊥) → MapRules b → ChoiceSays a b (answered Second)
   neither : (n z : ℕ) → (MapRules b → ⊥) → Judged a (refused n z) → ChoiceSays a b (refused n z)
 
 -- "then 1 where lengths differ": what the call refuses of its own, once the source is accepted
@@ -28,7 +30,7 @@ pub record CopyLaws : Type 0 where
   -- "byte for byte equal"
   pub equal_exactly : (a b : List ℕ) → same_bytes a b ≡ true ↔ a ≡ b
   -- what is handed back where a copy is found is an accepted map, and where none is found it is empty
-  pub part_accepted : (a b : List ℕ) (c : Copy) → copy_found a b ≡ answered c → MapRules (handed_back a b)
+  pub part_accepted : (a b : List ℕ) (c : Which) → copy_found a b ≡ answered c → MapRules (handed_back a b)
   pub part_empty : (a b : List ℕ) (n z : ℕ) → copy_found a b ≡ refused n z → handed_back a b ≡ []
   -- "with an accepted copy it leaves alone, the pair still yields an accepted map whatever bytes the other is left with"
   pub first_left_alone : (m other : List ℕ) → MapRules m → handed_back m other ≡ m

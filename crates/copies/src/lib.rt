@@ -12,111 +12,71 @@
 
 ghost use Rattle.std.specs.Prelude.{◌≡◌};
 ghost use Rattle.geometry.specs.Accepted.{AcceptedGeometry};
-ghost use Rattle.copies.specs.Copies.{same_bytes, Chooses, CopiesOver, copies_of, TellsAddresses};
+ghost use Rattle.copies.specs.Copies.{Chooses, CopiesOver, copies_of, TellsAddresses};
 ghost use Rattle.copies.specs.Laws.{CopyLaws};
 
-use geometry::{Geometry, Refusal, refuse};
-use map::Checked;
+use geometry::{Geometry, Reason, Refusal};
 
-// The source is written over the target, or a refusal.
-#[derive(Clone, Copy)]
-pub enum Copied {
-    Done,
-    Refused(Refusal),
+// One of the two copies, by the number that C is told.
+#[derive(Clone, Copy, Debug, PartialEq, Eq)]
+pub enum Which {
+    First = 1,
+    Second,
+}
+
+// Which copy is an accepted map: the first if it is, else the second, else the first's refusal. `part` is that copy, or empty; `equal`
+// tells in every case whether the copies are byte for byte equal.
+#[derive(Clone, Copy, Debug, PartialEq, Eq)]
+pub struct Chosen<'a> {
+    pub which: Result<Which, Refusal>,
+    pub part: &'a [u8],
+    pub equal: bool,
 }
 
 // The disc addresses of the two copies.
-#[derive(Clone, Copy)]
+#[derive(Clone, Copy, Debug, PartialEq, Eq)]
 pub struct Addresses {
     pub first: u64,
     pub second: u64,
 }
 
-// Where the copies lie, or a refusal.
-#[derive(Clone, Copy)]
-pub enum Located {
-    At(Addresses),
-    Refused(Refusal),
-}
-
-// Hands back the copy that is an accepted map: the first if it is accepted, else the second, else an empty part. `which` tells 1, 2 or
-// 0; `number` and `zone` the first's refusal where neither is accepted, and else 0; `equal` in every case whether the copies are byte
-// for byte equal (1) or not (0).
-pub fn choose<'a>(
-    first: &'a [u8],
-    second: &'a [u8],
-    number: &mut u32,
-    zone: &mut u32,
-    which: &mut u32,
-    equal: &mut u32,
-) -> &'a [u8]
-    ensures { Chooses first.now second.now (number.new, zone.new, which.new, equal.new) result.now }
+// Chooses among two copies. Both have one lifetime, as the part may be of either.
+pub fn choose<'a>(first: &'a [u8], second: &'a [u8]) -> Chosen<'a>
+    ensures { Chooses first.now second.now result }
 {
-    *number = 0;
-    *zone = 0;
-    *equal = same(first, second) as u32;
-    match map::check(first) {
-        Checked::Accepted(_) => {
-            *which = 1;
-            first
-        }
-        Checked::Refused(r) => match map::check(second) {
-            Checked::Accepted(_) => {
-                *which = 2;
-                second
-            }
-            Checked::Refused(_) => {
-                *number = r.number;
-                *zone = r.zone;
-                *which = 0;
-                &first[..0]
-            }
+    let (which, part) = match map::check(first) {
+        Ok(_) => (Ok(Which::First), first),
+        Err(refusal) => match map::check(second) {
+            Ok(_) => (Ok(Which::Second), second),
+            Err(_) => (Err(refusal), &first[..0]),
         },
+    };
+    Chosen {
+        which,
+        part,
+        equal: first == second,
     }
-}
-
-// Whether two slices are byte for byte equal.
-fn same(a: &[u8], b: &[u8]) -> bool
-    ensures { result ≡ same_bytes a.now b.now }
-{
-    if a.len() != b.len() {
-        return false;
-    }
-    // Every difference is kept, and no byte ends the search: that way many bytes are compared at a time.
-    let mut differ: u8 = 0;
-    let mut i = 0;
-    while i < a.len() {
-        differ = differ | (a[i] ^ b[i]);
-        i += 1;
-    }
-    differ == 0
 }
 
 // Writes an accepted map over another copy, whatever that holds. Refused: the source's 1 to 7, then 1 where the lengths differ; a
 // refusal changes no byte of the target.
-pub fn copy_over(source: &[u8], target: &mut [u8]) -> Copied
+pub fn copy_over(source: &[u8], target: &mut [u8]) -> Result<(), Refusal>
     ensures { CopiesOver source.now target.old result target.new }
 {
-    match map::check(source) {
-        Checked::Refused(r) => Copied::Refused(r),
-        Checked::Accepted(_) => {
-            if target.len() != source.len() {
-                return Copied::Refused(refuse(1));
-            }
-            target.copy_from_slice(source);
-            Copied::Done
-        }
+    map::check(source)?;
+    if target.len() != source.len() {
+        return Err(Reason::MapLength.into());
     }
+    target.copy_from_slice(source);
+    Ok(())
 }
 
 // Where the two copies of an accepted map lie on its disc. Refused: 1 to 7.
-pub fn copy_addresses(map: &[u8]) -> Located
+pub fn copy_addresses(map: &[u8]) -> Result<Addresses, Refusal>
     ensures { TellsAddresses map.now result }
 {
-    match map::check(map) {
-        Checked::Refused(r) => Located::Refused(r),
-        Checked::Accepted(g) => Located::At(addresses_of(g)),
-    }
+    let g = map::check(map)?;
+    Ok(addresses_of(g))
 }
 
 // Where the copies of a disc's map lie.

@@ -21,10 +21,10 @@ use Rattle.edits.proofs.PiecesKept.{AcceptedPieces}
 use Rattle.edits.proofs.ZonesAfter.{zone_pieces_at}
 use Rattle.walk.specs.Touching.{touching_of}
 use Rattle.edits.specs.EditableMap.{EditableMap}
-use Rattle.walk.specs.declared.Touching.TheVariants as told
+use Rattle.std.specs.Prelude.{None}
 use Rattle.walk.proofs.ZonesTouching.{none_told, zones_are}
 
-pub map_editable : {m : List ℕ} {g : Geometry} (a : AcceptedMap m g) → Bytes m → touching_of (touching 0 (zones_of m)) ≡ told.None → EditableMap m g
+pub map_editable : {m : List ℕ} {g : Geometry} (a : AcceptedMap m g) → Bytes m → touching_of (touching 0 (zones_of m)) ≡ None → EditableMap m g
 map_editable {m} a b t = record {
   accepted = a;
   editable = record { bytes = b; accepted = a.read ∙ ap answered (sym (zones_are a)); apart = none_told (touching 0 (zones_of m)) t };

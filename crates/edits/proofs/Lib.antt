@@ -53,3 +53,4 @@ pub mod PairsCounted
 pub mod EditableMap
 pub mod Outcomes
 pub mod ZonesEdited
+pub mod OutcomesNumbered

@@ -13,7 +13,8 @@ use Rattle.model.specs.Answer.{Answer, and_then, refused}
 use Rattle.model.specs.Check.{map_read}
 use Rattle.map.specs.Accepted.{AcceptedMap}
 use Rattle.map.specs.Checked.{checked}
-use Rattle.map.specs.declared.Checked.TheVariants as check
+use Rattle.geometry.specs.Answers.{number}
+use Rattle.model.proofs.Numbered.{map_numbered}
 use Rattle.map.proofs.Answers.{read_refused}
 use Rattle.edits.specs.Edits.{Edit}
 use Rattle.edits.specs.Judge.{Call, call_fits, judge}
@@ -22,11 +23,11 @@ use Rattle.model.specs.Shown.{zones_of, pieces_on}
 use Rattle.edits.proofs.StepWritten.{outcome_judged}
 use Rattle.walk.specs.Touching.{touching_of}
 use Rattle.edits.specs.EditableMap.{EditableMap}
-use Rattle.walk.specs.declared.Touching.TheVariants as told
+use Rattle.std.specs.Prelude.{Some, Err}
 use Rattle.walk.proofs.ZonesTouching.{zone_told, zones_are}
 
-pub check_refused : (m : List ℕ) (c : Call) (r : Refusal) → checked m ≡ check.Refused r → outcome m c ≡ refused r.number r.zone
-check_refused m c r e = ap (λ (x : Answer (List (List Entry))). and_then x (by_read (geometry_of m) c)) (read_refused (geometry_of m) (map_read m) r e)
+pub check_refused : (m : List ℕ) (c : Call) (r : Refusal) → checked m ≡ Err r → outcome m c ≡ refused (number r.reason) r.zone
+check_refused m c r e = ap (λ (x : Answer (List (List Entry))). and_then x (by_read (geometry_of m) c)) (read_refused (geometry_of m) (map_read m) r (map_numbered m) e)
 
 module _ {m : List ℕ} {g : Geometry} (a : AcceptedMap m g) (c : Call) where
   read_on : outcome m c ≡ by_read (geometry_of m) c a.zones
@@ -39,7 +40,7 @@ module _ {m : List ℕ} {g : Geometry} (a : AcceptedMap m g) (c : Call) where
       read_on ∙ rw f
 
   -- 9: "two free fragments of a zone touch"
-  pub touching_refused : call_fits g c ≡ true → (z : ℕ) → touching_of (touching 0 (zones_of m)) ≡ told.Zone z → outcome m c ≡ refused 9 z
+  pub touching_refused : call_fits g c ≡ true → (z : ℕ) → touching_of (touching 0 (zones_of m)) ≡ Some z → outcome m c ≡ refused 9 z
   touching_refused e z t =
       let f : call_fits (geometry_of m) c ≡ true = subst (λ (x : Geometry). call_fits x c ≡ true) a.geometry e in
       let k : touching 0 a.zones ≡ some z = ap (touching 0) (sym (zones_are a)) ∙ zone_told (touching 0 (zones_of m)) z t in

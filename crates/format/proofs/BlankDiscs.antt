@@ -13,6 +13,7 @@ use Rattle.edits.proofs.StepWritten.{MapOf}
 use Rattle.formatted.specs.Blank.{blank_for, blank_map}
 use Rattle.formatted.specs.Drawn.{map_length, blank_disc}
 use Rattle.formatted.proofs.BlankMap.{blank_of}
+use Rattle.formatted.proofs.BlankMap
 use Rattle.formatted.proofs.Fewest.{disc_fields, disc_last, disc_end_clusters}
 use Rattle.formatted.proofs.PiecesFit.{blank_accepted}
 use Rattle.format.specs.Zones.{Blank}
@@ -30,6 +31,9 @@ module _ {r : DiscRecord} {g : Geometry} (b : Blank r g) where
 
   pub spare_small : r.spare < 65536
   spare_small = given (λ y x. y.spare < 65536) (omega arith)
+
+  pub size_small : r.size < 4294967296
+  size_small = given (λ y x. y.size < 4294967296) (BlankMap.size_small b.logsector b.capacity b.idlen b.fits)
 
   pub map_of : MapOf g (blank_map r (map_length g))
   map_of = given (λ y x. MapOf x (blank_map y (map_length x))) (blank_of b.logsector b.capacity b.idlen b.fits)

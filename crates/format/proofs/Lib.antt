@@ -1,9 +1,6 @@
 pub mod Units
 pub mod Places
-pub mod Cleared
 pub mod RecordWritten
-pub mod PiecesIn
-pub mod Plans
 pub mod BlankDiscs
 pub mod ZonesDrawn
 pub mod MapFormatted

@@ -1,6 +1,6 @@
 -- The zones of a blank map drawn one by one. A zone to come is still blank: its cross check is 0, and the pieces that are in it can be drawn. Where
 -- all zones are done the map is the one that is written from the pieces and cross checks.
-use mathlib.Core.Path.{◌≡◌, refl, sym, ap, ap₂, ◌∙◌, subst⁻¹}
+use mathlib.Core.Path.{◌≡◌, refl, sym, ap, ◌∙◌, subst⁻¹}
 use mathlib.Core.List.{List, ◌∷◌}
 use Prim.Native.Nat.{ℕ, zero, suc, ◌+◌, ◌-◌, ◌*◌, ◌<◌, ◌≤◌}
 use native.Mathlib.Omega.{arith}
@@ -12,21 +12,16 @@ use Rattle.checks.specs.Cross.{cross_of}
 use Rattle.geometry.specs.declared.DiscRecord.{DiscRecord}
 use Rattle.geometry.specs.declared.Geometry.{Geometry}
 use Rattle.geometry.specs.Accepted.{AcceptedGeometry}
-use Rattle.model.specs.Pieces.{Piece}
 use Rattle.model.specs.Rules.{zone_block}
-use Rattle.model.proofs.ByPlace.{block_length, zone_end_law}
 use Rattle.edits.specs.Edits.{in_zone}
 use Rattle.edits.specs.Written.{zone_written}
 use Rattle.edits.proofs.StepWritten.{MapOf, length_new_map, block_new}
 use Rattle.edits.proofs.WrittenBelow.{WrittenBelow, next_block, written_ends, written_turn}
 use Rattle.edits.proofs.ZoneDrawable.{zone_drawable}
-use Rattle.writer.specs.declared.Piece as code
-use Rattle.writer.specs.Edited.{zone_put}
-use Rattle.writer.specs.Listed.{as_piece, pieces_from, ZoneDrawing, zone_drawn}
-use Rattle.writer.proofs.WholeZone.{drawing_listed}
+use Rattle.writer.specs.Listed.{zone_drawn}
 use Rattle.formatted.specs.Blank.{record_bytes, blank_map}
-use Rattle.formatted.specs.Drawn.{map_length, if_any, blank_pieces, blank_cross, blank_disc}
-use Rattle.format.specs.Zones.{two_of, one_of, cross_at, BlankOn, ZoneBlank, zone_formatted, zones_formatted}
+use Rattle.formatted.specs.Drawn.{map_length, blank_pieces, blank_cross, blank_disc}
+use Rattle.format.specs.Zones.{cross_at, BlankOn, ZoneBlank, zone_formatted, zones_formatted}
 use Rattle.format.proofs.BlankDiscs.{map_of, pieces_stand}
 
 only_zero : (n i : ℕ) → get_or {A = ℕ} (replicate n 0) i 0 ≡ 0
@@ -49,23 +44,6 @@ past_record r n i h =
 byte_three : (r : DiscRecord) (n size z : ℕ) → 64 ≤ size → get_or (blank_map r n) (z * size + 3) 0 ≡ 0
 byte_three r n size zero h = let e : 0 * size + 3 ≡ 3 = omega arith in ap (λ (k : ℕ). get_or (blank_map r n) k 0) e
 byte_three r n size (suc z) h = past_record r n (suc z * size + 3) (omega arith)
-
--- one zone drawn from the list of those of the two pieces that lie in it
-module _ {m : List ℕ} {g : Geometry} {z : ℕ} (q : ZoneBlank m g z) where
-  pub zone_ends : z * g.sector + g.sector ≤ length m
-  zone_ends = omega (arith, zone_end_law g.zones g.sector z q.zone, q.sized)
-
-  module _ {two rest : code.Piece} (is_two : two ≡ two_of g) (is_one : rest ≡ one_of g)
-      (pieces : List ℕ) (n : ℕ) (e : pieces_from pieces 0 n ≡ in_zone g z (as_piece two ∷ if_any (as_piece rest))) where
-    listed : pieces_from pieces 0 n ≡ in_zone g z (blank_pieces g)
-    listed = e ∙ ap₂ (λ (x y : code.Piece). in_zone g z (as_piece x ∷ if_any (as_piece y))) is_two is_one
-
-    pub zone_drawing : 3 * n ≤ length pieces → ZoneDrawing g z (zone_block g m z) pieces n
-    zone_drawing h = drawing_listed pieces n q.numbers q.zone (block_length m g.zones g.sector q.sized z q.zone) h listed q.drawable
-
-    pub zone_drawn_law : {change : ℕ} {new : List ℕ} → change ≡ cross_at z → new ≡ zone_drawn g z (pieces_from pieces 0 n) change (zone_block g m z)
-        → zone_put g z m new ≡ zone_formatted g z m
-    zone_drawn_law ec en = ap (zone_put g z m) (en ∙ ap₂ (λ (ps : List Piece) (x : ℕ). zone_drawn g z ps x (zone_block g m z)) listed ec)
 
 -- the zones in turn
 module _ {m : List ℕ} {g : Geometry} (a : BlankOn m g) where

@@ -1,10 +1,10 @@
 -- The zones of a blank disc's map, drawn one by one. Assumes nothing.
-use Rattle.std.specs.Prelude.{◌≡◌, true, cond, List, map, ℕ, ◌≤◌, ◌<◌, eqb, length}
+use Rattle.std.specs.Prelude.{◌≡◌, true, cond, List, map, ℕ, ◌<◌, eqb, length}
 use Rattle.geometry.specs.declared.DiscRecord.{DiscRecord}
 use Rattle.geometry.specs.declared.Geometry.{Geometry}
 use Rattle.geometry.specs.Record.{geometry_from}
 use Rattle.geometry.specs.Accepted.{AcceptedGeometry}
-use Rattle.geometry.specs.Places.{first_bit, end_bit, disc_bits}
+use Rattle.geometry.specs.Places.{first_bit, end_bit}
 use Rattle.model.specs.Blocks.{flat}
 use Rattle.model.specs.Chain.{Pair}
 use Rattle.model.specs.Check.{blocks_of}
@@ -27,9 +27,6 @@ two_of g = piece_of 2 (object_two g)
 
 abbrev pub one_of : Geometry → code.Piece
 one_of g = piece_of 1 (object_one g)
-
-abbrev pub InMap : Geometry → code.Piece → Type 0
-InMap g x = x.start.0 ≤ disc_bits g
 
 -- zone z's cross check
 abbrev pub cross_at : ℕ → ℕ

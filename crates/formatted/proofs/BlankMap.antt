@@ -22,7 +22,7 @@ use Rattle.edits.proofs.BytesKept.{bytes_append}
 use Rattle.edits.proofs.StepWritten.{MapOf}
 use Rattle.formatted.specs.Blank.{blank_for, disc_fits, record_bytes, blank_map}
 use Rattle.formatted.specs.Drawn.{map_length}
-use Rattle.formatted.proofs.Units.{above_999}
+use Rattle.formatted.proofs.Units.{unit_within}
 use Rattle.formatted.proofs.Fewest.{disc_fields, disc_together, disc_geometry, disc_unit}
 
 -- the record is where it is looked for
@@ -98,14 +98,11 @@ module _ (logsector capacity idlen : ℕ) (h : disc_fits logsector capacity idle
   r = blank_for logsector capacity idlen
 
   -- the table ends far below what four bytes count
-  small : capacity < 4294967296
-  small =
-      by_test (ltb capacity 4294967296) (λ t. ltb-true capacity 4294967296 t)
-      (λ t. let none = above_999 capacity (omega (arith, ltb-false capacity 4294967296 t)) in
-      absurd (omega (arith, disc_unit logsector capacity idlen h, (disc_geometry logsector capacity idlen h).unit_low)))
+  pub size_small : capacity < 4294967296
+  size_small = omega (arith, (unit_within capacity (omega (arith, disc_unit logsector capacity idlen h, (disc_geometry logsector capacity idlen h).unit_low))).0)
 
   pub blank_of : let r = blank_for logsector capacity idlen in MapOf (geometry_from r) (blank_map r (map_length (geometry_from r)))
-  blank_of = blank_map_law r refl (omega arith) small (disc_fields logsector capacity idlen h) (disc_together logsector capacity idlen h)
+  blank_of = blank_map_law r refl (omega arith) size_small (disc_fields logsector capacity idlen h) (disc_together logsector capacity idlen h)
 
   pub blank_record_law : (n : ℕ) → record_in (disc_record (blank_map (blank_for logsector capacity idlen) n)) ≡ blank_for logsector capacity idlen
-  blank_record_law n = record_back r refl small
+  blank_record_law n = record_back r refl size_small

@@ -1,4 +1,5 @@
-pub mod Answers
+pub mod Slices
+pub mod Closing
 pub mod Step
 pub mod FoundCut
 pub mod Opened

@@ -1,48 +1,39 @@
--- One fragment in front of bits that are cut: its id, its zero bits and its closing 1 are cut off as that fragment, and the
--- rest is cut as it was. By induction over the zero bits, then over the id's bits.
-use mathlib.Core.Path.{◌≡◌, refl, ap, ◌∙◌, subst}
-use mathlib.Core.Bool.{Bool, cond}
-use mathlib.Core.List.{List, [], ◌∷◌, ◌++◌}
-use mathlib.Core.Option.{Option, none, some}
-use Prim.Native.Nat.{ℕ, zero, suc, ◌+◌, ◌*◌}
-use native.Mathlib.Omega.{arith}
-use lib.ListN.{length}
-use Rattle.bits.specs.Bits.{value}
-use Rattle.model.specs.Fragments.{Fragment, closed, edge, within, grow, longer, close, cut}
+-- The first fragment cut off bits that are long enough for its closing 1: its id, its zero bits and that 1 are one fragment,
+-- and the rest is cut as it is. By induction over the zero bits, then over the id's bits.
+use Rattle.std.proofs.Common.{◌≡◌, Bool, true, false, List, [], ◌∷◌, ℕ, zero, suc, ◌+◌, ◌<◌, ◌≤◌, length, take, drop, refl, arith}
+use Rattle.std.proofs.Math.Option.{none}
+use Rattle.bits.specs.Bits.{value, zeros}
+use Rattle.model.specs.Fragments.{Fragment, edge, within, cut}
 use Rattle.model.specs.Chain.{before}
 
 abbrev pub fragment_of : ℕ → ℕ → Fragment
 fragment_of id len = record { id = id; len = len }
 
-same_front : {i j m n : ℕ} (r : Option (List Fragment)) → i ≡ j → m ≡ n → before (fragment_of i m) r ≡ before (fragment_of j n) r
-same_front r p q = λ i. before (fragment_of (p i) (q i)) r
+cut_zeros : (n : ℕ) (bs : List Bool) → zeros bs < length bs → cut n (within 0) bs ≡ before (fragment_of 0 (suc (zeros bs))) (cut n edge (drop (suc (zeros bs)) bs))
+cut_zeros n [] h = absurd (omega arith)
+cut_zeros n (true ∷ bs) h = grind arith
+cut_zeros n (false ∷ bs) h = grind (arith, cut_zeros n bs)
 
-longer_front : (i m : ℕ) (r : Option (List Fragment)) → longer (before (fragment_of i m) r) ≡ before (fragment_of i (suc m)) r
-longer_front i m none = refl
-longer_front i m (some fs) = refl
-
-grow_front : (b : Bool) (i m : ℕ) (r : Option (List Fragment)) → grow b (before (fragment_of i m) r) ≡ before (fragment_of (cond b 1 0 + 2 * i) (suc m)) r
-grow_front b i m none = refl
-grow_front b i m (some fs) = refl
-
-close_front : (r : Option (List Fragment)) → close r ≡ before (fragment_of 0 1) r
-close_front none = refl
-close_front (some fs) = refl
-
-cut_closed : (n z : ℕ) (rest : List Bool) → cut n (within 0) (closed z rest) ≡ before (fragment_of 0 (suc z)) (cut n edge rest)
-cut_closed n zero rest = close_front (cut n edge rest)
-cut_closed n (suc z) rest = ap longer (cut_closed n z rest) ∙ longer_front 0 (suc z) (cut n edge rest)
-
-cut_id : (n z : ℕ) (ids rest : List Bool) → cut n (within (length ids)) (ids ++ closed z rest) ≡ before (fragment_of (value ids) (suc (length ids + z))) (cut n edge rest)
-cut_id n z [] rest = cut_closed n z rest ∙ same_front (cut n edge rest) refl (omega arith)
-cut_id n z (b ∷ ids) rest =
-    ap (grow b) (cut_id n z ids rest) ∙ grow_front b (value ids) (suc (length ids + z)) (cut n edge rest)
-    ∙ same_front (cut n edge rest) refl (omega arith)
+cut_bits : (n k z : ℕ) (bs : List Bool) → z ≡ zeros (drop k bs) → k + z < length bs
+    → cut n (within k) bs ≡ before (fragment_of (value (take k bs)) (k + z + 1)) (cut n edge (drop (k + z + 1) bs))
+cut_bits n zero z bs e h = let l : zero + z + 1 ≡ suc (zeros bs) = omega arith in rw l (cut_zeros n bs (omega arith))
+cut_bits n (suc k) z [] e h = absurd (omega arith)
+cut_bits n (suc k) z (b ∷ bs) e h = grind (arith, cut_bits n k z bs)
 
 -- n is idlen - 1
-pub cut_front : (n z : ℕ) (ids rest : List Bool) → length ids ≡ suc n → cut n edge (ids ++ closed z rest) ≡ before (fragment_of (value ids) (suc (suc n + z))) (cut n edge rest)
-cut_front n z [] rest e = absurd (omega arith)
-cut_front n z (b ∷ ids) rest e =
-    let k : length ids ≡ n = omega arith in
-    ap (grow b) (subst (λ (m : ℕ). cut n (within m) (ids ++ closed z rest) ≡ before (fragment_of (value ids) (suc (m + z))) (cut n edge rest)) k (cut_id n z ids rest))
-    ∙ grow_front b (value ids) (suc (n + z)) (cut n edge rest) ∙ same_front (cut n edge rest) refl (omega arith)
+pub cut_first : (n z : ℕ) (bs : List Bool) → z ≡ zeros (drop (suc n) bs) → suc n + z < length bs
+    → cut n edge bs ≡ before (fragment_of (value (take (suc n) bs)) (suc n + z + 1)) (cut n edge (drop (suc n + z + 1) bs))
+cut_first n z [] e h = absurd (omega arith)
+cut_first n z (b ∷ bs) e h = grind (arith, cut_bits n n z bs)
+
+-- none where no 1 closes it
+cut_unclosed : (n k : ℕ) (bs : List Bool) → length bs ≤ k + zeros (drop k bs) → cut n (within k) bs ≡ none
+cut_unclosed n zero [] h = refl
+cut_unclosed n (suc k) [] h = refl
+cut_unclosed n zero (true ∷ bs) h = absurd (omega arith)
+cut_unclosed n zero (false ∷ bs) h = grind (arith, cut_unclosed n zero bs)
+cut_unclosed n (suc k) (b ∷ bs) h = grind (arith, cut_unclosed n k bs)
+
+pub cut_none : (n : ℕ) (bs : List Bool) → 0 < length bs → length bs ≤ suc n + zeros (drop (suc n) bs) → cut n edge bs ≡ none
+cut_none n [] z h = absurd (omega arith)
+cut_none n (b ∷ bs) z h = grind (arith, cut_unclosed n n bs)

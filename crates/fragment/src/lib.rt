@@ -9,7 +9,7 @@
 // (crate `zone`).
 #![tactic(auto)]
 
-ghost use Rattle.std.specs.Prelude.{◌≡◌, ◌+◌, ◌*◌, ◌^◌, ◌<◌, ◌≤◌, length};
+ghost use Rattle.std.specs.Prelude.{◌≡◌, ◌+◌, ◌-◌, ◌*◌, ◌^◌, ◌<◌, ◌≤◌, length};
 ghost use Rattle.std.proofs.Math.Seq.{slice};
 ghost use Rattle.bits.specs.Bits.{byte_bits, zeros};
 ghost use Rattle.model.specs.Chain.{onward};
@@ -18,15 +18,8 @@ ghost use Rattle.fragment.specs.Reading.{id_at, length_at};
 
 use geometry::BlockBit;
 
-// What stands at a place: a whole fragment, or bits that break the fragment rule (refusal 6).
-#[derive(Clone, Copy)]
-pub enum Found {
-    Whole { id: u32, len: usize },
-    Broken,
-}
-
 // A fragment read: its id and its length.
-#[derive(Clone, Copy)]
+#[derive(Clone, Copy, Debug, PartialEq, Eq)]
 pub struct FragmentRead {
     pub id: u32,
     pub len: usize,
@@ -40,24 +33,32 @@ pub fn closing_bit(block: &[u8], from: BlockBit, end: BlockBit) -> BlockBit
     BlockBit(from.0 + bits::zero_run(block, from.0, end.0))
 }
 
-// The fragment that starts at `at` in a zone whose bits end at `end`.
-pub fn fragment_at(block: &[u8], at: BlockBit, end: BlockBit, idlen: usize, cluster: usize) -> Found
+// The fragment that starts at `at` in a zone whose bits end at `end`, or None where its bits break the fragment rule
+// (refusal 6): they close no fragment before `end`, or one that is not of whole clusters.
+#[tactic(auto, using(crate::proofs::Closing::closing))]
+pub fn fragment_at(
+    block: &[u8],
+    at: BlockBit,
+    end: BlockBit,
+    idlen: usize,
+    cluster: usize,
+) -> Option<FragmentRead>
     requires { (at.0 ≤ end.0) × (end.0 ≤ length block.now * 8) × (idlen ≤ 31) × (0 < cluster) }
     ensures { result ≡ fragment_at block.now at.0 end.0 idlen cluster }
 {
     if end.0 - at.0 <= idlen {
-        return Found::Broken;
+        return None;
     }
     let close = closing_bit(block, BlockBit(at.0 + idlen), end);
-    if close.0 == end.0 {
-        return Found::Broken;
+    if close == end {
+        return None;
     }
-    let len = close.0 + 1 - at.0;
-    if len % cluster != 0 {
-        return Found::Broken;
+    let found = closed_fragment(block, at, close, idlen);
+    if found.len % cluster == 0 {
+        Some(found)
+    } else {
+        None
     }
-    let id = bits::number(block, at.0, idlen);
-    Found::Whole { id, len }
 }
 
 // The fragment at `at`, whose closing bit stands before `end`: in a zone that keeps the rules each one's does.
@@ -67,22 +68,32 @@ pub fn whole_fragment(block: &[u8], at: BlockBit, end: BlockBit, idlen: usize) -
     ensures len { result.len ≡ length_at idlen at.0 end.0 (byte_bits block.now) }
 {
     let last = closing_bit(block, BlockBit(at.0 + idlen), end);
-    let id = bits::number(block, at.0, idlen);
+    closed_fragment(block, at, last, idlen)
+}
+
+// The fragment from `at` to its closing bit.
+fn closed_fragment(block: &[u8], at: BlockBit, close: BlockBit, idlen: usize) -> FragmentRead
+    requires { (idlen ≤ 31) × (at.0 + idlen ≤ close.0) × (close.0 < length block.now * 8) × (close.0 + 1 < 2 ^ 64) }
+    ensures id { result.id ≡ id_at idlen at.0 (byte_bits block.now) }
+    ensures len { result.len ≡ close.0 + 1 - at.0 }
+{
     FragmentRead {
-        id,
-        len: last.0 + 1 - at.0,
+        id: bits::number(block, at.0, idlen),
+        len: close.0 + 1 - at.0,
     }
 }
 
-// Where a link leads that counts from a place, or 0 where it leads nowhere.
+// Where a link leads that counts from a place, or 0 where it leads nowhere, as the definition `onward` has it. No Option:
+// no fragment starts at 0, so the next place of a chain is compared with a fragment's own as it is, in every layer above.
 pub fn link_from(at: BlockBit, link: usize) -> BlockBit
     requires { at.0 + link < 2 ^ 64 }
     ensures { result.0 ≡ onward at.0 link }
 {
     if link == 0 {
-        return BlockBit(0);
+        BlockBit(0)
+    } else {
+        BlockBit(at.0 + link)
     }
-    BlockBit(at.0 + link)
 }
 
 // Where the chain leads next, once the fragment at `at` is passed: its id leads on only if the chain led to it.
@@ -90,8 +101,5 @@ pub fn next_after(at: BlockBit, next: BlockBit, id: usize) -> BlockBit
     requires { at.0 + id < 2 ^ 64 }
     ensures { result.0 ≡ next_after at.0 next.0 id }
 {
-    if at.0 == next.0 {
-        return link_from(at, id);
-    }
-    next
+    if at == next { link_from(at, id) } else { next }
 }

@@ -3,5 +3,7 @@ pub mod Rules
 pub mod Numbers
 pub mod DiscBits
 pub mod Starts
+pub mod Reasons
 pub mod RecordAnswers
 pub mod Editions
+pub mod Results

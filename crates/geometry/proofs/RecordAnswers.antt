@@ -1,5 +1,5 @@
 -- Reading a map's record: the three answers, each from what the tests found, and what each answer says of the map.
-use mathlib.Core.Path.{◌≡◌, refl, sym, ap, ◌∙◌, subst}
+use mathlib.Core.Path.{◌≡◌, refl, sym, ap, ap₂, ◌∙◌, subst}
 use mathlib.Core.Bool.{Bool, true, false, cond, ◌&&◌}
 use mathlib.Core.List.{List}
 use mathlib.Core.Logic.{◌⊎◌, inl, inr}
@@ -11,36 +11,45 @@ use borrow.Author.Tests.{ltb-true, ltb-false, lt-ltb, le-ltb}
 use Rattle.geometry.specs.declared.DiscRecord.{DiscRecord}
 use Rattle.geometry.specs.declared.Geometry.{Geometry}
 use Rattle.geometry.specs.declared.Refusal.{Refusal}
-use Rattle.geometry.specs.declared.RecordRead.{RecordRead}
-use Rattle.geometry.specs.declared.RecordRead.TheVariants as read
-use Rattle.geometry.specs.Record.{disc_record, record_in, geometry_from, geometry_of}
+use Rattle.std.specs.Prelude.{Option, None, Result, Ok, Err, ok_or}
+use Rattle.std.specs.Bool.{then_some}
+use Rattle.geometry.specs.Record.{disc_record, record_in, geometry_from, geometry_in, geometry_of}
 use Rattle.geometry.specs.Ranges.{zero_from, zero_end, fields_fit, geometry_fits, zero_bytes, record_fits}
 use Rattle.geometry.specs.Accepted.{AcceptedGeometry}
 use Rattle.geometry.specs.Answers.{refusal, by_fit, by_length, record_of, record_numbers, ReadsRecord}
 use Rattle.geometry.proofs.Numbers.{test_gives_accepted}
 
--- from the tests to the answer
-pub read_short : (m : List ℕ) → length m < 64 → read.Refused (refusal 1 0) ≡ record_of m
+-- the tests as the code makes them are those of a record that fits
+module _ (bs : List ℕ) {r : DiscRecord} (e : r ≡ record_in bs) where
+  abbrev rest : DiscRecord → Bool
+  rest x = geometry_fits (geometry_from x) && zero_bytes (zero_from x.version) (zero_end x.version) bs
+
+  pub unfitting : fields_fit r ≡ false → None ≡ then_some (record_fits bs) (geometry_in bs)
+  unfitting f = let t : fields_fit (record_in bs) ≡ false = ap fields_fit (sym e) ∙ f in rw t refl
+
+  pub fitting : {g : Geometry} {t : Bool} → g ≡ geometry_from r → fields_fit r ≡ true
+      → t ≡ geometry_fits g && zero_bytes (zero_from r.version) (zero_end r.version) bs
+      → then_some t g ≡ then_some (record_fits bs) (geometry_in bs)
+  fitting {g} {t} h f k =
+      ap₂ {C = Option Geometry} (λ x y. then_some x y)
+      (k ∙ ap (λ (x : Geometry). geometry_fits x && zero_bytes (zero_from r.version) (zero_end r.version) bs) h
+      ∙ sym (ap (λ (b : Bool). b && rest r) f) ∙ ap (λ (x : DiscRecord). fields_fit x && rest x) e)
+      (h ∙ ap geometry_from e)
+
+-- what a map's record gives, or its refusal
+pub read_short : (m : List ℕ) → length m < 64 → Err (refusal 1 0) ≡ record_of m
 read_short m h = rw (lt-ltb (length m) 64 h)
 
--- the record that was read is the map's, so its tests are the map's
-module _ (m : List ℕ) (long : 64 ≤ length m) {r : DiscRecord} (e : r ≡ record_in (disc_record m)) where
-  abbrev clean : DiscRecord → Bool
-  clean x = zero_bytes (zero_from x.version) (zero_end x.version) (disc_record m)
-
-  read_long : by_fit (fields_fit r && (geometry_fits (geometry_from r) && clean r)) (geometry_from r) ≡ record_of m
-  read_long =
-      ap (λ (x : DiscRecord). by_fit (fields_fit x && (geometry_fits (geometry_from x) && clean x)) (geometry_from x)) e
-      ∙ rw (le-ltb (length m) 64 long)
-
-  pub read_outside : fields_fit r ≡ false → read.Refused (refusal 2 0) ≡ record_of m
-  read_outside t = rw t at read_long
-
-  pub read_geometry : fields_fit r ≡ true → {g : Geometry} → g ≡ geometry_from r → {b : Bool} → b ≡ geometry_fits g && clean r → by_fit b g ≡ record_of m
-  read_geometry f {g} h t = ap (λ (x : Bool). by_fit x g) t ∙ ap (λ (x : Geometry). by_fit (geometry_fits x && clean r) x) h ∙ (rw f at read_long)
+pub read_long : (m : List ℕ) → 64 ≤ length m → {o : Option Geometry} → o ≡ then_some (record_fits (disc_record m)) (geometry_of m)
+    → ok_or o (refusal 2 0) ≡ record_of m
+read_long m long {o} e = ap (λ (x : Option Geometry). ok_or x (refusal 2 0)) e ∙ rw (le-ltb (length m) 64 long) (go (record_fits (disc_record m)))
+  where
+    go : (b : Bool) → ok_or (then_some b (geometry_of m)) (refusal 2 0) ≡ by_fit b (geometry_of m)
+    go true = refl
+    go false = refl
 
 -- the answer's numbers are the table's
-pub reads_record : (m : List ℕ) {r : RecordRead} → r ≡ record_of m → ReadsRecord m r
+pub reads_record : (m : List ℕ) {r : Result Geometry Refusal} → r ≡ record_of m → ReadsRecord m r
 reads_record m e = record { answer = e; numbers = ap record_numbers e ∙ told (ltb (length m) 64) (record_fits (disc_record m)) }
   where
     told : (short fits : Bool) → record_numbers (by_length short (by_fit fits (geometry_of m))) ≡ cond short (1, 0) (cond fits (0, 0) (2, 0))
@@ -50,26 +59,26 @@ reads_record m e = record { answer = e; numbers = ap record_numbers e ∙ told (
 
 -- from the answer to the tests
 module _ (m : List ℕ) where
-  pub accepted_says : (g : Geometry) → record_of m ≡ read.Accepted g → (64 ≤ length m) × (record_fits (disc_record m) ≡ true) × (g ≡ geometry_of m)
+  pub accepted_says : (g : Geometry) → record_of m ≡ Ok g → (64 ≤ length m) × (record_fits (disc_record m) ≡ true) × (g ≡ geometry_of m)
   accepted_says g = go (ltb (length m) 64) (record_fits (disc_record m)) (geometry_of m) refl
     where
-      go : (short fits : Bool) (h : Geometry) → ltb (length m) 64 ≡ short → by_length short (by_fit fits h) ≡ read.Accepted g
+      go : (short fits : Bool) (h : Geometry) → ltb (length m) 64 ≡ short → by_length short (by_fit fits h) ≡ Ok g
           → (64 ≤ length m) × (fits ≡ true) × (g ≡ h)
       go true fits h l e = let x : ◌≡◌ {A = ℕ} 0 1 = cc in absurd (omega arith)
       go false true h l e = (ltb-false (length m) 64 l, refl, cc)
       go false false h l e = let x : ◌≡◌ {A = ℕ} 0 1 = cc in absurd (omega arith)
 
-  pub refused_says : (r : Refusal) → record_of m ≡ read.Refused r
+  pub refused_says : (r : Refusal) → record_of m ≡ Err r
       → ((r ≡ refusal 1 0) × (length m < 64)) ⊎ ((r ≡ refusal 2 0) × (64 ≤ length m) × (record_fits (disc_record m) ≡ false))
   refused_says r = go (ltb (length m) 64) (record_fits (disc_record m)) (geometry_of m) refl
     where
-      go : (short fits : Bool) (h : Geometry) → ltb (length m) 64 ≡ short → by_length short (by_fit fits h) ≡ read.Refused r
+      go : (short fits : Bool) (h : Geometry) → ltb (length m) 64 ≡ short → by_length short (by_fit fits h) ≡ Err r
           → ((r ≡ refusal 1 0) × (length m < 64)) ⊎ ((r ≡ refusal 2 0) × (64 ≤ length m) × (fits ≡ false))
       go true fits h l e = inl (cc, ltb-true (length m) 64 l)
       go false true h l e = let x : ◌≡◌ {A = ℕ} 0 1 = cc in absurd (omega arith)
       go false false h l e = inr (cc, ltb-false (length m) 64 l, refl)
 
-  pub accepted_geometry : (g : Geometry) → record_of m ≡ read.Accepted g → AcceptedGeometry g
+  pub accepted_geometry : (g : Geometry) → record_of m ≡ Ok g → AcceptedGeometry g
   accepted_geometry g e =
       let a = accepted_says g e in
       subst (λ (x : Geometry). AcceptedGeometry x) (sym a.2) (test_gives_accepted (disc_record m) a.1)

@@ -8,8 +8,7 @@ use lib.Dec.{eqb, ltb}
 use borrow.Author.Tests.{lt-ltb, le-ltb, ltb-true, ltb-false, ne_eqb}
 use Rattle.bits.proofs.Tests.{by_test, and_with_false}
 use Rattle.geometry.specs.declared.Geometry.{Geometry}
-use Rattle.geometry.specs.declared.Start.{Start}
-use Rattle.geometry.specs.declared.Start.TheVariants as start
+use Rattle.std.specs.Prelude.{Result, Ok, Err}
 use Rattle.geometry.specs.Record.{geometry_from, eight_zones}
 use Rattle.geometry.specs.Places.{start_zone, id_from}
 use Rattle.geometry.specs.Answers.{refusal, start_of, start_numbers, by_name, TellsStart}
@@ -46,7 +45,7 @@ module _ (g : Geometry) (id : ℕ) where
       (λ t. let p : g.zones * g.ids ≤ id = (le-div_iff_mul-le pos).0 (ltb-false _ _ t) in t ∙ sym (le-ltb _ _ (rw mul_comm at p)))
 
 -- the answer's numbers are the paper's
-pub starts_at : (g : Geometry) (low id : ℕ) {r : Start} → r ≡ start_of g low id → TellsStart g low id r
+pub starts_at : (g : Geometry) (low id : ℕ) {r : Result ℕ Refusal} → r ≡ start_of g low id → TellsStart g low id r
 starts_at g low id e = record { answer = e; numbers = ap start_numbers e ∙ told (id_from low g id) (start_zone g id) }
   where
     told : (b : Bool) (z : ℕ) → start_numbers (by_name b z) ≡ cond b (0, 0, z) (8, 0, 0)
@@ -54,11 +53,11 @@ starts_at g low id e = record { answer = e; numbers = ap start_numbers e ∙ tol
     told false z = refl
 
 -- what an answer says of the id: it is named, or it is refused with 8
-pub named : (b : Bool) (z s : ℕ) → by_name b z ≡ start.Zone s → (b ≡ true) × (s ≡ z)
+pub named : (b : Bool) (z s : ℕ) → by_name b z ≡ Ok s → (b ≡ true) × (s ≡ z)
 named true z s e = (refl, cc)
 named false z s e = let x : ◌≡◌ {A = ℕ} 0 1 = cc in absurd (omega arith)
 
-pub not_named : (b : Bool) (z : ℕ) (r : Refusal) → by_name b z ≡ start.Refused r → (b ≡ false) × (r ≡ refusal 8 0)
+pub not_named : (b : Bool) (z : ℕ) (r : Refusal) → by_name b z ≡ Err r → (b ≡ false) × (r ≡ refusal 8 0)
 not_named true z r e = let x : ◌≡◌ {A = ℕ} 0 1 = cc in absurd (omega arith)
 not_named false z r e = (refl, cc)
 

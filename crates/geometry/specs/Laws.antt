@@ -6,10 +6,14 @@ use Rattle.geometry.specs.Record.{floppy_disc, eight_zones, drive_of, plus_disc}
 use Rattle.geometry.specs.Ranges.{ZeroBytes, RecordRules, record_fits}
 use Rattle.geometry.specs.Accepted.{AcceptedGeometry}
 use Rattle.geometry.specs.Places.{first_bit, end_bit, disc_bit, block_bit, zone_of, zone_from, zone_end, disc_bits, start_zone}
-use Rattle.geometry.specs.Answers.{record_told, start_of, start_numbers}
+use Rattle.geometry.specs.declared.Reason.{Reason}
+use Rattle.geometry.specs.Answers.{reason_of, number, record_told, start_of, start_numbers}
 use Rattle.geometry.specs.Version0.{geometry_in0, record_fits0}
 
 pub record GeometryLaws : Type 0 where
+  -- the table has a reason for each number, and each reason has its number
+  pub numbered : (n : ℕ) → 1 ≤ n → n ≤ 17 → number (reason_of n) ≡ n
+  pub reasoned : (r : Reason) → reason_of (number r) ≡ r
   -- the test accepts a record exactly when it keeps the rules
   pub test_is_rules : (r : List ℕ) → (record_fits r ≡ true → RecordRules r) × (RecordRules r → record_fits r ≡ true)
   -- what an accepted record gives the layers above

@@ -3,17 +3,18 @@
 #![tactic(auto)]
 
 ghost use Rattle.std.specs.Prelude.{◌≡◌, ◌+◌, ◌-◌, ◌*◌, ◌/◌, ◌%◌, ◌^◌, ◌<◌, ◌≤◌, length};
-ghost use Rattle.geometry.specs.Record.{cluster_of, two_bytes, four_bytes, by_version, record_in, geometry_from};
-ghost use Rattle.geometry.specs.Ranges.{FieldRules, between, fields_fit, geometry_fits, zero_bytes};
+ghost use Rattle.std.specs.Bool.{then_some};
+ghost use Rattle.geometry.specs.Record.{cluster_of, two_bytes, four_bytes, by_version, record_in, geometry_from, geometry_in};
+ghost use Rattle.geometry.specs.Ranges.{FieldRules, between, fields_fit, geometry_fits, all_zero, record_fits};
 ghost use Rattle.geometry.specs.Accepted.{SmallNumbers, AcceptedGeometry};
 ghost use Rattle.geometry.specs.Places.{first_bit, end_bit, disc_bit, block_bit, zone_of, zone_from, disc_bits, id_from};
-ghost use Rattle.geometry.specs.Answers.{refusal, ReadsRecord, TellsStart};
+ghost use Rattle.geometry.specs.Answers.{number, without_zone, ReadsRecord, TellsStart};
 ghost use Rattle.geometry.specs.Laws.{GeometryLaws};
 
-use bits::{both, minus, wide, zero_run};
+use std::ops::Range;
 
 // The fields of a disc record that are judged, by document 01's names.
-#[derive(Clone, Copy)]
+#[derive(Clone, Copy, Debug, PartialEq, Eq)]
 pub struct DiscRecord {
     pub logsector: usize, // log2secsize
     pub idlen: usize,
@@ -25,7 +26,7 @@ pub struct DiscRecord {
 }
 
 // What a disc record fixes, by document 01's letters.
-#[derive(Clone, Copy)]
+#[derive(Clone, Copy, Debug, PartialEq, Eq)]
 pub struct Geometry {
     pub sector: usize, // S, the bytes of a sector and of a block
     pub idlen: usize, // the bits of an id
@@ -40,80 +41,82 @@ pub struct Geometry {
     pub version: usize, // the edition: 0 for E, 1 for E+
 }
 
-// A numbered refusal of document 01's table, with the zone told.
-#[derive(Clone, Copy)]
+// Why a map or a call is refused, by document 01's numbers. `NoId` cannot arise.
+#[derive(Clone, Copy, Debug, PartialEq, Eq)]
+pub enum Reason {
+    MapLength = 1,
+    Record,
+    ZoneCheck,
+    CrossChecks,
+    FreeChain,
+    Fragment,
+    Owner,
+    Id,
+    FreeTouching,
+    IdAbsent,
+    IdPresent,
+    Argument,
+    NotFree,
+    NoId,
+    NoRoom,
+    PastEnd,
+    Entries,
+}
+
+// A refusal, with the zone told: 0 where its reason tells none.
+#[derive(Clone, Copy, Debug, PartialEq, Eq)]
 pub struct Refusal {
-    pub number: u32,
+    pub reason: Reason,
     pub zone: u32,
 }
 
-// The geometry that a record gives, or a refusal.
-#[derive(Clone, Copy)]
-pub enum RecordRead {
-    Accepted(Geometry),
-    Refused(Refusal),
+impl From<Reason> for Refusal {
+    ghost from_gives = { λ reason refusal. refusal ≡ without_zone reason };
+
+    fn from(reason: Reason) -> Refusal {
+        Refusal { reason, zone: 0 }
+    }
 }
 
-// A start zone, or a refusal.
-#[derive(Clone, Copy)]
-pub enum Start {
-    Zone(usize),
-    Refused(Refusal),
+impl Refusal {
+    // The table's number.
+    pub fn number(self) -> u32
+        ensures { result ≡ number self.reason }
+    {
+        self.reason as u32
+    }
 }
 
 // A bit within a zone's block, and a bit of the disc: two kinds of number. `Geometry::disc_bit` and `Geometry::block_bit` alone lead from
 // one to the other. A disc bit is a number of a list, so it has 32 bits.
-#[derive(Clone, Copy)]
+#[derive(Clone, Copy, Debug, PartialEq, Eq, PartialOrd, Ord)]
 pub struct BlockBit(pub usize);
 
-#[derive(Clone, Copy)]
+#[derive(Clone, Copy, Debug, PartialEq, Eq, PartialOrd, Ord)]
 pub struct DiscBit(pub u32);
 
 // The geometry that a map's record gives. Refused: 1 where the map is under 64 bytes, 2 where the record is outside its
 // ranges or bytes are not 0 that have to be.
-pub fn read_record(map: &[u8]) -> RecordRead
+pub fn read_record(map: &[u8]) -> Result<Geometry, Refusal>
     ensures { ReadsRecord map.now result }
 {
     if map.len() < 64 {
-        return RecordRead::Refused(refuse(1));
+        return Err(Reason::MapLength.into());
     }
-    let bytes = &map[4..64];
-    let r = record_in(bytes);
-    if !fields_fit(r) {
-        return RecordRead::Refused(refuse(2));
-    }
-    let g = geometry_from(r);
-    let from = by_version(r.version, 32, 36);
-    let end = by_version(r.version, 60, 40);
-    if !both(geometry_fits(g), zero_bytes(bytes, from, end)) {
-        return RecordRead::Refused(refuse(2));
-    }
-    RecordRead::Accepted(g)
-}
-
-// A refusal that tells zone 0.
-pub fn refuse(number: u32) -> Refusal
-    ensures { result ≡ refusal number 0 }
-{
-    Refusal { number, zone: 0 }
+    geometry_in(&map[4..64]).ok_or(Reason::Record.into())
 }
 
 impl Geometry {
     // The zone where the search for an object's first fragment starts. Refused with 8: an id outside `low` to P*nzones - 1.
-    pub fn start_zone(self, low: u32, id: u32) -> Start
+    pub fn start_zone(self, low: u32, id: u32) -> Result<usize, Refusal>
         ensures { TellsStart self low id result }
     {
         let n = id as usize;
-        if self.ids == 0 {
-            return Start::Refused(refuse(8));
+        if self.ids != 0 && low <= id && n / self.ids < self.zones {
+            Ok(if n == 2 { self.zones / 2 } else { n / self.ids })
+        } else {
+            Err(Reason::Id.into())
         }
-        if !both(low <= id, n / self.ids < self.zones) {
-            return Start::Refused(refuse(8));
-        }
-        if n == 2 {
-            return Start::Zone(self.zones / 2);
-        }
-        Start::Zone(n / self.ids)
     }
 
     // Whether an id lies from `low` to P*nzones - 1. On a geometry that was accepted the product fits.
@@ -121,17 +124,14 @@ impl Geometry {
         requires { AcceptedGeometry self }
         ensures { result ≡ id_from low self id }
     {
-        both(low <= id, id < self.ids * self.zones)
+        low <= id && id < self.ids * self.zones
     }
 
     // The first allocation bit of zone z.
     pub fn zone_first(self, z: usize) -> BlockBit
         ensures { (result.0 ≡ first_bit z) × (32 ≤ result.0) × (result.0 ≤ 512) }
     {
-        if z == 0 {
-            return BlockBit(512);
-        }
-        BlockBit(32)
+        BlockBit(if z == 0 { 512 } else { 32 })
     }
 
     // The bit after a zone's last allocation bit.
@@ -147,6 +147,15 @@ impl Geometry {
         ensures { result ≡ self.shortest }
     {
         self.shortest
+    }
+
+    // Where the block of zone z stands in the map.
+    pub fn block(self, z: usize) -> Range<usize>
+        requires { AcceptedGeometry self × (z < self.zones) }
+        ensures { (result.start ≡ z * self.sector) × (result.end ≡ z * self.sector + self.sector) }
+    {
+        let start = z * self.sector;
+        start..start + self.sector
     }
 
     // The disc bits that the map controls.
@@ -170,7 +179,7 @@ impl Geometry {
         requires { AcceptedGeometry self × (z ≤ 65536) }
         ensures { result.0 ≡ block_bit self z d.0 }
     {
-        BlockBit(minus(d.0 as usize + 512, z * self.bits))
+        BlockBit((d.0 as usize + 512).saturating_sub(z * self.bits))
     }
 
     // The disc bit of zone z's first allocation bit; of the number after the last zone, the disc bit where the map ends.
@@ -203,10 +212,7 @@ fn cluster_of(s: usize, b: usize) -> usize
     requires { 0 < b }
     ensures { (result ≡ cluster_of s b) × (1 ≤ result) × (result ≤ s + 1) }
 {
-    if b < s {
-        return s / b;
-    }
-    1
+    if b < s { s / b } else { 1 }
 }
 
 // The fields of a record's bytes.
@@ -215,12 +221,12 @@ fn record_in(r: &[u8]) -> DiscRecord
     ensures { (result ≡ record_in r.now) × (result.logsector < 256) × (result.size < 4294967296) }
 {
     let version = four_bytes(r, 44);
-    let zones = wide(r[9]);
+    let zones = usize::from(r[9]);
     DiscRecord {
-        logsector: wide(r[0]),
-        idlen: wide(r[4]),
-        logunit: wide(r[5]),
-        zones: by_version(version, zones, zones + 256 * wide(r[42])),
+        logsector: usize::from(r[0]),
+        idlen: usize::from(r[4]),
+        logunit: usize::from(r[5]),
+        zones: by_version(version, zones, zones + 256 * usize::from(r[42])),
         spare: two_bytes(r, 10),
         size: four_bytes(r, 16),
         version,
@@ -239,7 +245,7 @@ fn four_bytes(r: &[u8], at: usize) -> usize
     requires { at + 3 < length r.now }
     ensures { (result ≡ four_bytes r.now at) × (result < 4294967296) }
 {
-    two_bytes(r, at) + 65536 * two_bytes(r, at + 2)
+    u32::from_le_bytes([r[at], r[at + 1], r[at + 2], r[at + 3]]) as usize
 }
 
 // The number of two bytes, least significant first.
@@ -247,13 +253,7 @@ fn two_bytes(r: &[u8], at: usize) -> usize
     requires { at + 1 < length r.now }
     ensures { (result ≡ two_bytes r.now at) × (result < 65536) }
 {
-    wide(r[at]) + 256 * wide(r[at + 1])
-}
-
-fn within(a: usize, x: usize, b: usize) -> bool
-    ensures { result ≡ between a x b }
-{
-    both(a <= x, x <= b)
+    usize::from(u16::from_le_bytes([r[at], r[at + 1]]))
 }
 
 // The ranges of the fields one by one.
@@ -263,12 +263,25 @@ pub fn fields_fit(r: DiscRecord) -> bool
 {
     let longest = by_version(r.version, 15, 19);
     let most = by_version(r.version, 255, 65535);
-    let sector = within(8, r.logsector, 10);
-    let id = within(r.logsector + 3, r.idlen, longest);
-    let unit = within(7, r.logunit, 12);
-    let zones = within(1, r.zones, most);
-    let fields = both(sector, both(id, both(unit, both(zones, 32 <= r.spare))));
-    both(r.version <= 1, fields)
+    let id = r.logsector + 3 <= r.idlen && r.idlen <= longest;
+    let sizes = (8..=10).contains(&r.logsector) && (7..=12).contains(&r.logunit);
+    let zones = 1 <= r.zones && r.zones <= most;
+    r.version <= 1 && sizes && id && zones && 32 <= r.spare
+}
+
+// The geometry of a record's bytes, if they keep the rules.
+fn geometry_in(bytes: &[u8]) -> Option<Geometry>
+    requires { length bytes.now ≡ 60 }
+    ensures { result ≡ then_some (record_fits bytes.now) (geometry_in bytes.now) }
+{
+    let r = record_in(bytes);
+    if !fields_fit(r) {
+        return None;
+    }
+    let g = geometry_from(r);
+    let from = by_version(r.version, 32, 36);
+    let end = by_version(r.version, 60, 40);
+    (geometry_fits(g) && all_zero(&bytes[from..end])).then_some(g)
 }
 
 // The numbers that the fields fix. A zone_spare above 8S leaves no bits.
@@ -278,7 +291,7 @@ pub fn geometry_from(r: DiscRecord) -> Geometry
 {
     let sector = power(r.logsector);
     let unit = power(r.logunit);
-    let bits = minus(8 * sector, r.spare);
+    let bits = (8 * sector).saturating_sub(r.spare);
     let cluster = cluster_of(sector, unit);
     Geometry {
         sector,
@@ -300,21 +313,17 @@ pub fn geometry_fits(g: Geometry) -> bool
     requires { SmallNumbers g }
     ensures { result ≡ geometry_fits g }
 {
-    let room = minus(g.zones * g.bits, 480) * g.unit;
-    let disc = both(0 < g.size, both(g.size % g.sector == 0, g.size <= room));
+    let room = (g.zones * g.bits).saturating_sub(480) * g.unit;
+    let disc = 0 < g.size && g.size % g.sector == 0 && g.size <= room;
     let named = g.ids * g.zones <= power(g.idlen);
-    both(
-        g.bits % g.cluster == 0,
-        both(480 + g.shortest <= g.bits, both(named, disc)),
-    )
+    g.bits % g.cluster == 0 && 480 + g.shortest <= g.bits && named && disc
 }
 
-// Whether bytes `from` to `end - 1` of a record's 60 are 0: none of their bits is 1.
-fn zero_bytes(r: &[u8], from: usize, end: usize) -> bool
-    requires { (length r.now ≡ 60) × (from ≤ end) × (end ≤ 60) }
-    ensures { result ≡ zero_bytes from end r.now }
+// Whether all bytes are 0.
+fn all_zero(bytes: &[u8]) -> bool
+    ensures { result ≡ all_zero bytes.now }
 {
-    zero_run(r, 8 * from, 8 * end) == 8 * (end - from)
+    bytes.iter().all(|byte| *byte == 0)
 }
 
 // The laws of specs/Laws, as a contract: the function does nothing.

@@ -1,29 +1,21 @@
 -- What a pass over holes finds: what one hole more does to their bits, and to the longest of them. Holes lie apart on the map, so their bits are no
 -- more than the map's.
-use mathlib.Core.Path.{◌≡◌, refl, sym, ap, ◌∙◌, subst}
+use mathlib.Core.Path.{◌≡◌, refl, ap, subst}
 use mathlib.Core.List.{List, [], ◌∷◌}
 use Prim.Native.Nat.{ℕ, ◌+◌, ◌<◌, ◌≤◌}
-use native.Mathlib.Nat.{sub-zero}
 use native.Mathlib.Omega.{arith}
 use lib.Dec.{leb}
-use borrow.Author.Tests.{lt-ltb, le-ltb, le-leb, lt-leb}
+use borrow.Author.Tests.{lt-ltb, le-leb}
 use Rattle.bits.proofs.Tests.{by_test}
 use Rattle.geometry.specs.declared.Geometry.{Geometry}
 use Rattle.geometry.specs.Places.{disc_bits}
 use Rattle.geometry.proofs.DiscBits.{disc_bits_small}
 use Rattle.model.specs.Chain.{Pair}
 use Rattle.map.specs.Accepted.{AcceptedMap}
-use Rattle.walk.specs.HeldBy.{held_from}
-use Rattle.chain.specs.declared.FreeWalk.{FreeWalk}
-use Rattle.chain.specs.FreeAhead.{free_ahead, FreeStarts}
 use Rattle.listing.proofs.Ascend.{Apart, apart_le, apart_from, map_apart}
 use Rattle.split.specs.Taken.{total}
-use Rattle.split.specs.Threshold.{at_least, longer, first_longest}
+use Rattle.split.specs.Threshold.{at_least, longer}
 use Rattle.holes.specs.Passes.{holes_on}
-
--- a walk from the first zone on has all holes ahead
-pub all_ahead : {m : List ℕ} {g : Geometry} {w : FreeWalk} → FreeStarts m g 0 w → free_ahead m g w ≡ holes_on g m
-all_ahead {m} {g} s = s.all ∙ ap (held_from g 0 m 0) (sub-zero g.zones)
 
 -- holes that lie apart, and the first of them taken away
 total_apart : (at end : ℕ) (hs : List Pair) → Apart at end hs → at + total hs ≤ end
@@ -39,13 +31,6 @@ apart_turn end {others = others} {h} e a =
     let from = h.start + h.len in
     (omega (arith, apart_le from end others k.2), apart_from 0 from end others (omega arith) k.2)
 
--- one hole more that is long enough, or is not
-pub long_enough : (t : ℕ) {hs rest : List Pair} {h : Pair} → hs ≡ h ∷ rest → t ≤ h.len → at_least t hs ≡ h.len + at_least t rest
-long_enough t {h = h} e k = ap (at_least t) e ∙ rw (le-leb t h.len k)
-
-pub too_short : (t : ℕ) {hs rest : List Pair} {h : Pair} → hs ≡ h ∷ rest → h.len < t → at_least t hs ≡ at_least t rest
-too_short t {h = h} e k = ap (at_least t) e ∙ rw (lt-leb t h.len k)
-
 pub at_least_some : (t : ℕ) (hs : List Pair) → at_least t hs ≤ total hs
 at_least_some t [] = omega arith
 at_least_some t (h ∷ hs) =
@@ -60,10 +45,3 @@ at_least_zero (h ∷ hs) = rw (le-leb 0 h.len (omega arith)) (ap (λ (n : ℕ). 
 -- the first of the longest: a hole takes its place only if it is longer
 pub longer_later : (h x : Pair) → h.len < x.len → longer h x ≡ x
 longer_later h x k = rw (lt-ltb h.len x.len k)
-
-pub longer_first : (h x : Pair) → x.len ≤ h.len → longer h x ≡ h
-longer_first h x k = rw (le-ltb h.len x.len k)
-
-pub longest_turn : (h : Pair) {hs rest : List Pair} {x r all : Pair} → hs ≡ x ∷ rest → first_longest h hs ≡ all → r ≡ longer h x
-    → first_longest r rest ≡ all
-longest_turn h {rest = rest} e q k = ap (λ (p : Pair). first_longest p rest) k ∙ sym (ap (first_longest h) e) ∙ q

@@ -14,11 +14,11 @@ ghost use Rattle.split.specs.Taken.{total, cut_bits};
 ghost use Rattle.split.specs.Threshold.{at_least};
 ghost use Rattle.holes.specs.Passes.{holes_on, pieces_by, Surveyed, ThresholdFound, Gives, on_side};
 
-use bits::{both, larger, minus};
+use chain::Span;
 use geometry::{DiscBit, Geometry};
 
 // All holes: their bits together, and the first one of the longest, which has no bits where there is no hole.
-#[derive(Clone, Copy)]
+#[derive(Clone, Copy, Debug, PartialEq, Eq)]
 pub struct AllHoles {
     pub bits: usize,
     pub start: DiscBit,
@@ -26,55 +26,55 @@ pub struct AllHoles {
 }
 
 // The threshold: holes longer than `len` go whole, and those of `len` bits are to give `rest` bits.
-#[derive(Clone, Copy)]
+#[derive(Clone, Copy, Debug, PartialEq, Eq)]
 pub struct Threshold {
     pub len: usize,
     pub rest: usize,
 }
 
 // The bits of all holes, and the first of the longest ones.
+#[tactic(auto, using(crate::proofs::HoleBits::total_small))]
 pub fn survey(map: &[u8], g: Geometry) -> AllHoles
     requires { AcceptedMap map.now g }
     ensures { Surveyed (holes_on g map.now) result }
 {
-    let zones = g.zones;
     let mut bits = 0;
-    let mut start = DiscBit(0);
-    let mut len = 0;
-    let mut w = chain::from_zone(map, g, 0);
-    while w.zone < zones {
-        let s = chain::next(map, g, w);
-        bits += s.len as usize;
-        if len < s.len {
-            start = s.start;
-            len = s.len;
+    let mut longest = Span {
+        start: DiscBit(0),
+        len: 0,
+    };
+    for hole in chain::spans(map, g, 0) {
+        bits += hole.len as usize;
+        if longest.len < hole.len {
+            longest = hole;
         }
-        w = s.after;
     }
-    AllHoles { bits, start, len }
+    AllHoles {
+        bits,
+        start: longest.start,
+        len: longest.len,
+    }
 }
 
-// The bits of the holes of at least t bits.
-fn bits_from(map: &[u8], g: Geometry, t: usize) -> usize
+// The bits of the holes of at least so many bits.
+#[tactic(auto, using(crate::proofs::HoleBits::total_small, crate::proofs::HoleBits::at_least_some))]
+fn bits_from(map: &[u8], g: Geometry, least: usize) -> usize
     requires { AcceptedMap map.now g }
-    ensures { result ≡ at_least t (holes_on g map.now) }
+    ensures { result ≡ at_least least (holes_on g map.now) }
 {
-    let zones = g.zones;
     let mut bits = 0;
-    let mut w = chain::from_zone(map, g, 0);
-    while w.zone < zones {
-        let s = chain::next(map, g, w);
-        let len = s.len as usize;
-        if t <= len {
+    for hole in chain::spans(map, g, 0) {
+        let len = hole.len as usize;
+        if least <= len {
             bits += len;
         }
-        w = s.after;
     }
     bits
 }
 
 // The threshold for `need` bits, where no hole is longer than `longest`: found by halving, so in at most as many passes as `longest` has binary
 // digits, 13.
+#[tactic(auto, using(crate::proofs::HoleBits::at_least_zero))]
 pub fn find_threshold(map: &[u8], g: Geometry, need: usize, longest: u32) -> Threshold
     requires { AcceptedMap map.now g × (0 < need) × (need ≤ total (holes_on g map.now))
         × (at_least (suc longest) (holes_on g map.now) ≡ 0) }
@@ -83,6 +83,7 @@ pub fn find_threshold(map: &[u8], g: Geometry, need: usize, longest: u32) -> Thr
     let mut low = 0;
     let mut high = longest as usize + 1;
     let mut above = 0;
+    // No `for`: the two bounds close in on each other.
     while low + 1 < high {
         let middle = (low + high) / 2;
         let bits = bits_from(map, g, middle);
@@ -105,18 +106,18 @@ pub fn cut_of(g: Geometry, remains: usize, len: u32) -> u32
     ensures { result ≡ cut_bits g.shortest remains len }
 {
     let shortest = g.shortest_fragment();
-    let taken = larger(remains, shortest);
+    let taken = remains.max(shortest);
     if (len as usize) < taken + shortest {
-        return len;
+        len
+    } else {
+        taken as u32
     }
-    taken as u32
 }
 
-// What a hole gives: its first `len` bits, or nothing; and what the holes of the threshold's length that follow are still to give.
+// What a hole gives: its first so many bits, or nothing; and what the holes of the threshold's length that follow are still to give.
 #[derive(Clone, Copy)]
 struct Given {
-    taken: bool,
-    len: u32,
+    piece: Option<u32>,
     rest: usize,
 }
 
@@ -127,43 +128,34 @@ fn gives(g: Geometry, least: usize, rest: usize, len: u32) -> Given
 {
     let bits = len as usize;
     if least < bits {
-        return Given {
-            taken: true,
-            len,
+        Given {
+            piece: Some(len),
             rest,
-        };
-    }
-    if bits < least {
-        return Given {
-            taken: false,
-            len,
-            rest,
-        };
-    }
-    Given {
-        taken: 0 < rest,
-        len: cut_of(g, rest, len),
-        rest: minus(rest, least),
+        }
+    } else if bits == least && 0 < rest {
+        Given {
+            piece: Some(cut_of(g, rest, len)),
+            rest: rest.saturating_sub(least),
+        }
+    } else {
+        Given { piece: None, rest }
     }
 }
 
 // How many pieces are taken.
-pub fn count_pieces(map: &[u8], g: Geometry, t: Threshold) -> usize
-    requires { AcceptedMap map.now g × (t.rest < 4294967296) }
-    ensures { result ≡ length (pieces_by g map.now t) }
+#[tactic(auto, using(crate::proofs::Picked::counting))]
+pub fn count_pieces(map: &[u8], g: Geometry, threshold: Threshold) -> usize
+    requires { AcceptedMap map.now g × (threshold.rest < 4294967296) }
+    ensures { result ≡ length (pieces_by g map.now threshold) }
 {
-    let zones = g.zones;
-    let mut n = 0;
-    let mut rest = t.rest;
-    let mut w = chain::from_zone(map, g, 0);
-    while w.zone < zones {
-        let s = chain::next(map, g, w);
-        let p = gives(g, t.len, rest, s.len);
-        n += bits::one(p.taken) as usize;
-        rest = p.rest;
-        w = s.after;
+    let mut count = 0;
+    let mut rest = threshold.rest;
+    for hole in chain::spans(map, g, 0) {
+        let given = gives(g, threshold.len, rest, hole.len);
+        count += usize::from(given.piece.is_some());
+        rest = given.rest;
     }
-    n
+    count
 }
 
 // Writes the pairs of the pieces on one side of a zone, ascending, from entry `at` on; answers the entry after them. Pieces of the other side are
@@ -171,29 +163,28 @@ pub fn count_pieces(map: &[u8], g: Geometry, t: Threshold) -> usize
 pub fn write_pieces(
     map: &[u8],
     g: Geometry,
-    t: Threshold,
+    threshold: Threshold,
     zone: usize,
     late: bool,
     pairs: &mut [u32],
     at: usize,
 ) -> usize
-    requires { AcceptedMap map.now g × (t.rest < 4294967296) × (at + 2 * length (keep (on_side g zone late) (pieces_by g map.now t)) ≤ length pairs.old) }
-    ensures list { pairs.new ≡ sets pairs.old at (numbers_of (keep (on_side g zone late) (pieces_by g map.now t))) }
-    ensures next { result ≡ at + 2 * length (keep (on_side g zone late) (pieces_by g map.now t)) }
+    requires { AcceptedMap map.now g × (threshold.rest < 4294967296)
+        × (at + 2 * length (keep (on_side g zone late) (pieces_by g map.now threshold)) ≤ length pairs.old) }
+    ensures list { pairs.new ≡ sets pairs.old at (numbers_of (keep (on_side g zone late) (pieces_by g map.now threshold))) }
+    ensures next { result ≡ at + 2 * length (keep (on_side g zone late) (pieces_by g map.now threshold)) }
 {
-    let zones = g.zones;
-    let mut i = at;
-    let mut rest = t.rest;
-    let mut w = chain::from_zone(map, g, 0);
-    while w.zone < zones {
-        let s = chain::next(map, g, w);
-        let p = gives(g, t.len, rest, s.len);
-        let here = both(p.taken, on_side(g, zone, late, s.start));
-        i = listing::put_if(here, s.start, p.len, pairs, i);
-        rest = p.rest;
-        w = s.after;
+    let mut next = at;
+    let mut rest = threshold.rest;
+    for hole in chain::spans(map, g, 0) {
+        let given = gives(g, threshold.len, rest, hole.len);
+        rest = given.rest;
+        if let Some(len) = given.piece {
+            let here = on_side(g, zone, late, hole.start);
+            next = listing::put_if(here, hole.start, len, pairs, next);
+        }
     }
-    i
+    next
 }
 
 // Whether a piece that starts at a disc bit lies on one side of a zone: from it on where `late`, else before it.
@@ -202,5 +193,5 @@ fn on_side(g: Geometry, zone: usize, late: bool, start: DiscBit) -> bool
     ensures { (n : ℕ) → result ≡ on_side g zone late (pair start.0 n) }
 {
     let after = zone <= g.zone_of(start);
-    if late { after } else { !after }
+    after == late
 }

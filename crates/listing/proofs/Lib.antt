@@ -1,6 +1,5 @@
 pub mod ByTable
 pub mod Stored
-pub mod LinesStored
 pub mod Filled
 pub mod Ascend
 pub mod FreeHeld

@@ -1,16 +1,15 @@
 -- What the listing calls answer, and what they leave in the lent list (document 01, "The calls", refusals 8, 10, 17).
 -- Assumes nothing.
-use Rattle.std.specs.Prelude.{◌≡◌, List, [], ◌∷◌, ◌++◌, ℕ, ◌*◌, leb, length, drop}
+use Rattle.std.specs.Prelude.{◌≡◌, List, [], ◌∷◌, ◌++◌, ℕ, ◌*◌, leb, length, drop, Result, Ok, Err}
 use Rattle.geometry.specs.declared.Geometry.{Geometry}
+use Rattle.geometry.specs.declared.Refusal.{Refusal}
 use Rattle.geometry.specs.Record.{geometry_of}
 use Rattle.geometry.specs.Places.{id_from}
-use Rattle.geometry.specs.Answers.{refusal}
+use Rattle.geometry.specs.Answers.{number, refusal}
 use Rattle.model.specs.Chain.{Pair, Entry, numbers_of}
 use Rattle.model.specs.Answer.{Answer, refused, answered, unless, and_then}
 use Rattle.model.specs.Check.{map_read}
 use Rattle.model.specs.Pieces.{pieces_of_zones, object_pairs, free_spans}
-use Rattle.listing.specs.declared.Listed.{Listed}
-use Rattle.listing.specs.declared.Listed.TheVariants as listed
 
 -- 17: "too few entries for the pairs"
 abbrev pub with_room : ℕ → List Pair → Answer (List Pair)
@@ -33,9 +32,9 @@ abbrev pub free_found : List ℕ → ℕ → Answer (List Pair)
 free_found m room = and_then (map_read m) (λ (ess : List (List Entry)). with_room room (free_spans (geometry_of m) 0 ess))
 
 -- the answer: how many pairs
-abbrev pub list_answer : Answer (List Pair) → Listed
-list_answer (answered qs) = listed.Pairs (length qs)
-list_answer (refused n z) = listed.Refused (refusal n z)
+abbrev pub list_answer : Answer (List Pair) → Result ℕ Refusal
+list_answer (answered qs) = Ok (length qs)
+list_answer (refused n z) = Err (refusal n z)
 
 -- "Entries past the last pair are untouched"; a refusal writes nothing
 abbrev pub list_after : List ℕ → Answer (List Pair) → List ℕ
@@ -43,9 +42,9 @@ list_after old (answered qs) = numbers_of qs ++ drop (2 * length qs) old
 list_after old (refused n z) = old
 
 -- the paper's numbers: refusal (0: accepted), zone told, pairs
-abbrev pub list_numbers : Listed → ℕ × ℕ × ℕ
-list_numbers (listed.Pairs n) = (0, 0, n)
-list_numbers (listed.Refused r) = (r.number, r.zone, 0)
+abbrev pub list_numbers : Result ℕ Refusal → ℕ × ℕ × ℕ
+list_numbers (Ok n) = (0, 0, n)
+list_numbers (Err r) = (number r.reason, r.zone, 0)
 
 -- as the table gives them for what is found
 abbrev pub list_told : Answer (List Pair) → ℕ × ℕ × ℕ
@@ -53,7 +52,7 @@ list_told (refused n z) = (n, z, 0)
 list_told (answered qs) = (0, 0, length qs)
 
 -- the answer with its numbers, and every entry of the lent list
-pub record Lists (found : Answer (List Pair)) (old : List ℕ) (r : Listed) (new : List ℕ) : Type 0 where
+pub record Lists (found : Answer (List Pair)) (old : List ℕ) (r : Result ℕ Refusal) (new : List ℕ) : Type 0 where
   pub answer : r ≡ list_answer found
   pub numbers : list_numbers r ≡ list_told found
   pub list : new ≡ list_after old found

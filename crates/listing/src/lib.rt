@@ -10,66 +10,46 @@ ghost use Rattle.walk.specs.HeldBy.{held_from, held_between};
 ghost use Rattle.listing.specs.Listed.{object_found, free_found, Lists};
 ghost use Rattle.listing.specs.Laws.{ListingLaws};
 
-use geometry::{DiscBit, Geometry, Refusal, Start, refuse};
-use map::Checked;
-
-// How many pairs were written, or a refusal.
-#[derive(Clone, Copy)]
-pub enum Listed {
-    Pairs(usize),
-    Refused(Refusal),
-}
+use geometry::{DiscBit, Geometry, Reason, Refusal};
 
 // Lists an object's pieces in object order, a pair for each fragment: disc bit, length. Refused: 1 to 7 as `map::check`, 8, 10,
 // 17.
-pub fn list(map: &[u8], id: u32, pairs: &mut [u32]) -> Listed
+pub fn list(map: &[u8], id: u32, pairs: &mut [u32]) -> Result<usize, Refusal>
     ensures { Lists (object_found map.now id (length pairs.old)) pairs.old result pairs.new }
 {
-    match map::check(map) {
-        Checked::Refused(r) => Listed::Refused(r),
-        Checked::Accepted(g) => list_object(map, g, id, pairs),
-    }
+    let g = map::check(map)?;
+    list_object(map, g, id, pairs)
 }
 
 // Lists the free spans, ascending, a pair for each free fragment. Refused: 1 to 7 as `map::check`, 17.
-pub fn free(map: &[u8], pairs: &mut [u32]) -> Listed
+pub fn free(map: &[u8], pairs: &mut [u32]) -> Result<usize, Refusal>
     ensures { Lists (free_found map.now (length pairs.old)) pairs.old result pairs.new }
 {
-    match map::check(map) {
-        Checked::Refused(r) => Listed::Refused(r),
-        Checked::Accepted(g) => {
-            let zones = g.zones;
-            let spans = count_held(map, g, 0);
-            if pairs.len() / 2 < spans {
-                return Listed::Refused(refuse(17));
-            }
-            write_held(map, g, 0, 0, zones, pairs, 0);
-            Listed::Pairs(spans)
-        }
+    let g = map::check(map)?;
+    let spans = count_held(map, g, 0);
+    if pairs.len() / 2 < spans {
+        return Err(Reason::Entries.into());
     }
+    write_held(map, g, 0, 0, g.zones, pairs, 0);
+    Ok(spans)
 }
 
 // An object of an accepted map: 8, 10, 17, then the pieces from the start zone on, and those of the zones before it.
-pub fn list_object(map: &[u8], g: Geometry, id: u32, pairs: &mut [u32]) -> Listed
+pub fn list_object(map: &[u8], g: Geometry, id: u32, pairs: &mut [u32]) -> Result<usize, Refusal>
     requires { AcceptedMap map.now g }
     ensures { Lists (object_found map.now id (length pairs.old)) pairs.old result pairs.new }
 {
-    match g.start_zone(1, id) {
-        Start::Refused(r) => Listed::Refused(r),
-        Start::Zone(start) => {
-            let zones = g.zones;
-            let n = count_held(map, g, id);
-            if n == 0 {
-                return Listed::Refused(refuse(10));
-            }
-            if pairs.len() / 2 < n {
-                return Listed::Refused(refuse(17));
-            }
-            let at = write_held(map, g, id, start, zones, pairs, 0);
-            write_held(map, g, id, 0, start, pairs, at);
-            Listed::Pairs(n)
-        }
+    let start = g.start_zone(1, id)?;
+    let n = count_held(map, g, id);
+    if n == 0 {
+        return Err(Reason::IdAbsent.into());
     }
+    if pairs.len() / 2 < n {
+        return Err(Reason::Entries.into());
+    }
+    let at = write_held(map, g, id, start, g.zones, pairs, 0);
+    write_held(map, g, id, 0, start, pairs, at);
+    Ok(n)
 }
 
 // How many fragments a holder has on an accepted map; holder 0 is free space.
@@ -77,15 +57,9 @@ pub fn count_held(map: &[u8], g: Geometry, holder: u32) -> usize
     requires { AcceptedMap map.now g }
     ensures { result ≡ length (held_from g holder map.now 0 g.zones) }
 {
-    let zones = g.zones;
-    let mut n = 0;
-    let mut w = walk::from_zone(map, g, 0);
-    while w.zone < zones {
-        let s = walk::next(map, g, w);
-        n += same(s.line.holder, holder);
-        w = s.after;
-    }
-    n
+    walk::lines(map, g, 0, g.zones)
+        .filter(|line| line.holder == holder)
+        .count()
 }
 
 // Writes the pairs of a holder's fragments in zones `from` to `to`, ascending, from entry `at` on; answers the entry after them.
@@ -103,21 +77,10 @@ pub fn write_held(
     ensures next { result ≡ at + 2 * length (held_between g holder map.now from to) }
 {
     let mut i = at;
-    let mut w = walk::from_zone(map, g, from);
-    while w.zone < to {
-        let s = walk::next(map, g, w);
-        let line = s.line;
+    for line in walk::lines(map, g, from, to) {
         i = put_if(line.holder == holder, line.start, line.len, pairs, i);
-        w = s.after;
     }
     i
-}
-
-// 1 where the two numbers are the same.
-fn same(a: u32, b: u32) -> usize
-    ensures { (result ≡ cond (eqb a b) 1 0) × (result ≤ 1) }
-{
-    if a == b { 1 } else { 0 }
 }
 
 // Stores a pair at entry `at` if it is wanted; answers the entry after it.

@@ -18,13 +18,13 @@ use Rattle.model.specs.Answer.{Answer, refused, answered}
 use Rattle.model.specs.Check.{zone_read, zones_read, blocks_of, map_read, mend_read}
 use Rattle.map.specs.Checked.{check_answer, checked, mend_checked}
 use Rattle.map.specs.Accepted.{ReadableFrom, AcceptedMap, MendableMap}
-use Rattle.map.specs.declared.Checked.TheVariants.{Accepted}
+use Rattle.std.specs.Prelude.{Ok}
 use Rattle.model.proofs.MapTests.{zone_and_rest, read_tests, accepted_tests}
 use Rattle.model.proofs.ByPlace.{rest_from, rest_cons, rest_none, rest_all}
 use Rattle.zone.specs.Lines.{entries_in, IsRead}
 use Rattle.zone.proofs.EntriesRead.{is_read}
 
-answer_parts : (g k : Geometry) (r : Answer (List (List Entry))) → check_answer g r ≡ Accepted k → (ess : List (List Entry)) × (r ≡ answered ess) × (g ≡ k)
+answer_parts : (g k : Geometry) (r : Answer (List (List Entry))) → check_answer g r ≡ Ok k → (ess : List (List Entry)) × (r ≡ answered ess) × (g ≡ k)
 answer_parts g k (refused n i) e = let x : ◌≡◌ {A = ℕ} 0 1 = cc in absurd (omega arith)
 answer_parts g k (answered ess) e = (ess, refl, cc)
 
@@ -87,12 +87,12 @@ readable m ess e =
       reads = λ z l h. read_at m (geometry_of m) 0 ess turn z l h;
     }
 
-pub accepts : (m : List ℕ) (g : Geometry) → checked m ≡ Accepted g → AcceptedMap m g
+pub accepts : (m : List ℕ) (g : Geometry) → checked m ≡ Ok g → AcceptedMap m g
 accepts m g e =
     let t = answer_parts (geometry_of m) g (map_read m) e in
     subst (AcceptedMap m) t.2 (record { geometry = refl; readable = readable m t.0 (accepted_tests m t.0 t.1).read; zones = t.0; read = t.1 })
 
-pub mendable : (m : List ℕ) (g : Geometry) → mend_checked m ≡ Accepted g → MendableMap m g
+pub mendable : (m : List ℕ) (g : Geometry) → mend_checked m ≡ Ok g → MendableMap m g
 mendable m g e =
     let t = answer_parts (geometry_of m) g (mend_read m) e in
     subst (MendableMap m) t.2 (record { geometry = refl; readable = readable m t.0 t.1; zones = t.0; read = t.1 })

@@ -2,112 +2,81 @@
 // order 1 (under 64), 2, 1, 3 over all zones, 4; then zone by zone 6, 5, 7.
 #![tactic(auto)]
 
-ghost use Rattle.std.specs.Prelude.{◌≡◌, ◌+◌, ◌*◌, ◌<◌, ◌≤◌, eqb, length, get_or};
+ghost use Rattle.std.specs.Prelude.{◌≡◌, [], ◌*◌, ◌<◌, ◌≤◌, eqb, length, get_or};
 ghost use Rattle.checks.specs.Words.{zone_check};
 ghost use Rattle.checks.specs.Cross.{cross_of};
 ghost use Rattle.geometry.specs.Accepted.{AcceptedGeometry};
-ghost use Rattle.model.specs.Check.{zones_read, differing, cross_sum, blocks_of};
-ghost use Rattle.map.specs.Checked.{first_differing, check_answer, mend_checked, blocks_read_by, checked_parts, check_bytes, Checks};
+ghost use Rattle.geometry.specs.Record.{geometry_of};
+ghost use Rattle.model.specs.Answer.{answered};
+ghost use Rattle.model.specs.Rules.{zone_block};
+ghost use Rattle.model.specs.Check.{zones_read, differing, cross_sum, measured, blocks_of};
+ghost use Rattle.map.specs.Checked.{first_differing, check_answer, mend_checked, check_bytes, Checks};
 
-use geometry::{Geometry, RecordRead, Refusal};
-use zone::ZoneVerdict;
+use geometry::{Geometry, Reason, Refusal};
 
-// An accepted map's geometry, or a refusal.
-#[derive(Clone, Copy)]
-pub enum Checked {
-    Accepted(Geometry),
-    Refused(Refusal),
+// The block of zone z.
+pub fn block(map: &[u8], g: Geometry, z: usize) -> &[u8]
+    requires { AcceptedGeometry g × (length map.now ≡ g.zones * g.sector) × (z < g.zones) }
+    ensures { result.now ≡ zone_block g map.now z }
+{
+    &map[g.block(z)]
 }
 
 // Checks any bytes as a map.
-pub fn check(map: &[u8]) -> Checked
+pub fn check(map: &[u8]) -> Result<Geometry, Refusal>
     ensures { Checks map.now result }
 {
-    check_parts(map, true)
+    let g = sized(map)?;
+    check_bytes(map, g)?;
+    judge_zones(map, g)
 }
 
 // The same with 3 and 4 ignored, as the mender asks it (document 02, R-9).
-pub fn check_zones(map: &[u8]) -> Checked
+pub fn check_zones(map: &[u8]) -> Result<Geometry, Refusal>
     ensures { result ≡ mend_checked map.now }
 {
-    check_parts(map, false)
+    judge_zones(map, sized(map)?)
 }
 
-// The record, the length, then the blocks: their checks too, or the zones alone.
-fn check_parts(map: &[u8], checks: bool) -> Checked
-    ensures { result ≡ checked_parts map.now checks }
+// The record, then the length.
+fn sized(map: &[u8]) -> Result<Geometry, Refusal>
+    ensures { result ≡ check_answer (geometry_of map.now) (measured map.now (answered [])) }
 {
-    match geometry::read_record(map) {
-        RecordRead::Refused(r) => Checked::Refused(r),
-        RecordRead::Accepted(g) => {
-            if map.len() != g.zones * g.sector {
-                return Checked::Refused(Refusal { number: 1, zone: 0 });
-            }
-            check_blocks(map, g, checks)
-        }
+    let g = geometry::read_record(map)?;
+    if map.len() != g.zones * g.sector {
+        return Err(Reason::MapLength.into());
     }
+    Ok(g)
 }
 
-// The check bytes, if they are asked for; then zone by zone.
-fn check_blocks(map: &[u8], g: Geometry, checks: bool) -> Checked
+// The zone checks of all zones, then the cross checks.
+fn check_bytes(map: &[u8], g: Geometry) -> Result<(), Refusal>
     requires { AcceptedGeometry g × (length map.now ≡ g.zones * g.sector) }
-    ensures { result ≡ check_answer g (blocks_read_by checks g map.now) }
+    ensures { result ≡ check_bytes (blocks_of g map.now) }
 {
-    match check_bytes(map, g, checks) {
-        CheckBytes::Refused(r) => Checked::Refused(r),
-        CheckBytes::Right => judge_zones(map, g),
+    if let Some(zone) = first_differing(map, g) {
+        return Err(Refusal {
+            reason: Reason::ZoneCheck,
+            zone,
+        });
     }
-}
-
-// Check bytes that are right, or a refusal.
-#[derive(Clone, Copy)]
-enum CheckBytes {
-    Right,
-    Refused(Refusal),
-}
-
-// The zone checks of all zones, then the cross checks, if they are asked for.
-fn check_bytes(map: &[u8], g: Geometry, checks: bool) -> CheckBytes
-    requires { AcceptedGeometry g × (length map.now ≡ g.zones * g.sector) }
-    ensures { result ≡ check_bytes checks (blocks_of g map.now) }
-{
-    if !checks {
-        return CheckBytes::Right;
+    if cross_checks(map, g) != 255 {
+        return Err(Reason::CrossChecks.into());
     }
-    match zone_checks(map, g) {
-        FirstDiffering::Zone(zone) => CheckBytes::Refused(Refusal { number: 3, zone }),
-        FirstDiffering::None => {
-            if cross_checks(map, g) != 255 {
-                return CheckBytes::Refused(Refusal { number: 4, zone: 0 });
-            }
-            CheckBytes::Right
-        }
-    }
+    Ok(())
 }
 
 // The first zone whose check differs.
-#[derive(Clone, Copy)]
-enum FirstDiffering {
-    None,
-    Zone(u32),
-}
-
-fn zone_checks(map: &[u8], g: Geometry) -> FirstDiffering
+fn first_differing(map: &[u8], g: Geometry) -> Option<u32>
     requires { AcceptedGeometry g × (length map.now ≡ g.zones * g.sector) }
     ensures { result ≡ first_differing (differing 0 (blocks_of g map.now)) }
 {
-    let zones = g.zones;
-    let size = g.sector;
-    let mut z = 0;
-    while z < zones {
-        let a = z * size;
-        let e = a + size;
-        if !check_holds(&map[a..e]) {
-            return FirstDiffering::Zone(z as u32);
+    for z in 0..g.zones {
+        if !check_holds(block(map, g, z)) {
+            return Some(z as u32);
         }
-        z += 1;
     }
-    FirstDiffering::None
+    None
 }
 
 // Whether a block's first byte is its zone check.
@@ -118,21 +87,16 @@ fn check_holds(block: &[u8]) -> bool
     block[0] == checks::zone_check(block)
 }
 
-// The exclusive-or of all cross checks, from the last zone down.
+// The exclusive-or of all cross checks.
 pub fn cross_checks(map: &[u8], g: Geometry) -> u8
     requires { AcceptedGeometry g × (length map.now ≡ g.zones * g.sector) }
     ensures { result ≡ cross_sum (blocks_of g map.now) }
 {
-    let size = g.sector;
-    let mut x: u8 = 0;
-    let mut z = g.zones;
-    while 0 < z {
-        z -= 1;
-        let a = z * size;
-        let e = a + size;
-        x = cross_check(&map[a..e]) ^ x;
+    let mut sum = 0;
+    for z in (0..g.zones).rev() {
+        sum = cross_check(block(map, g, z)) ^ sum;
     }
-    x
+    sum
 }
 
 // A block's cross check.
@@ -144,27 +108,12 @@ fn cross_check(block: &[u8]) -> u8
 }
 
 // Zone by zone: fragments, chain, owners. The lowest zone that breaks a rule is told.
-fn judge_zones(map: &[u8], g: Geometry) -> Checked
+fn judge_zones(map: &[u8], g: Geometry) -> Result<Geometry, Refusal>
     requires { AcceptedGeometry g × (length map.now ≡ g.zones * g.sector) }
     ensures { result ≡ check_answer g (zones_read g 0 (blocks_of g map.now)) }
 {
-    let zones = g.zones;
-    let size = g.sector;
-    let mut z = 0;
-    while z < zones {
-        let a = z * size;
-        let e = a + size;
-        match zone::judge(&map[a..e], z, g) {
-            ZoneVerdict::Broken(number) => {
-                return Checked::Refused(Refusal {
-                    number,
-                    zone: z as u32,
-                });
-            }
-            ZoneVerdict::Kept => {
-                z += 1;
-            }
-        }
+    for z in 0..g.zones {
+        zone::judge(block(map, g, z), z, g)?;
     }
-    Checked::Accepted(g)
+    Ok(g)
 }

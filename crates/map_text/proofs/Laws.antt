@@ -1,78 +1,63 @@
 -- The laws of the text. Those of digits go digit by digit; the examples compute.
-use mathlib.Core.Path.{◌≡◌, refl, sym, ap, ◌∙◌}
-use mathlib.Core.List.{List, [], ◌∷◌, ◌++◌}
-use Prim.Native.Nat.{ℕ, zero, suc, ◌+◌, ◌-◌, ◌*◌, ◌/◌, ◌<◌, ◌≤◌}
-use native.Mathlib.Omega.{arith}
-use lib.Dec.{ltb}
-use borrow.Author.Tests.{ltb-true, ltb-false, lt-ltb, le-ltb}
-use lib.ListN.{length, get_or, take, length-append, get_or-append}
-use Rattle.bits.proofs.Tests.{by_test}
+use Rattle.std.proofs.Common.{◌≡◌, refl, sym, ap, ◌∙◌, List, [], ◌∷◌, map, ℕ, zero, suc, ◌+◌, ◌-◌, ◌*◌, ◌<◌, ◌≤◌, length, get_or, arith}
+use Rattle.std.proofs.lemmas.Int.Digits.{all_below_base_digits_of, number_digits_of, first_digits_of}
+use Rattle.std.specs.Prelude.{codes}
+use Rattle.std.specs.Int.Digits.{digits_of, number_from_digits_after, AllBelowBase}
+use borrow.Author.Tests.{lt-ltb, le-ltb}
 use Rattle.checks.specs.Words.{zone_check, words_of, total}
 use Rattle.map_text.specs.declared.Left.{Left}
-use Rattle.map_text.specs.Ascii.{ascii}
-use Rattle.map_text.specs.Decimal.{last_digit, decimal_in, decimal}
-use Rattle.map_text.specs.Text.{pair_text, owner_text, line_text, refusal_text, lines_text, map_text, program_text}
+use Rattle.map_text.specs.Decimal.{digit, decimal}
+use Rattle.map_text.specs.Text.{pair_text, owner_text, line_text, refusal_text, map_text, program_text}
 use Rattle.map_text.specs.Parts.{left_text}
 use Rattle.map_text.specs.Laws.{spelt, Digits, Printed, done, more, TextLaws}
+use Rattle.map_text.proofs.Digits.{decimal_some}
 
-spelt_append : (x : ℕ) (ds es : List ℕ) → spelt x (ds ++ es) ≡ spelt (spelt x ds) es
-spelt_append x [] es = refl
-spelt_append x (d ∷ ds) es = spelt_append (x * 10 + (d - 48)) ds es
+all_digits : (ds : List ℕ) → AllBelowBase 10 ds → Digits (map digit ds)
+all_digits [] h = tt
+all_digits (d ∷ ds) h = ((omega (arith, h.0), omega (arith, h.0)), all_digits ds h.1)
 
-digits_append : (ds es : List ℕ) → Digits ds → Digits es → Digits (ds ++ es)
-digits_append [] es p q = q
-digits_append (d ∷ ds) es p q = (p.0, p.1, digits_append ds es p.2 q)
+spells : (x : ℕ) (ds : List ℕ) → spelt x (map digit ds) ≡ number_from_digits_after 10 x ds
+spells x [] = refl
+spells x (d ∷ ds) = let e : x * 10 + (digit d - 48) ≡ x * 10 + d = omega arith in ap (λ (y : ℕ). spelt y (map digit ds)) e ∙ spells (x * 10 + d) ds
 
-last_is_digit : (n : ℕ) → Digits (last_digit n ∷ [])
-last_is_digit n = (omega arith, omega arith, tt)
+first_digit : (ds : List ℕ) → 0 < get_or ds 0 0 → 48 < get_or (map digit ds) 0 0
+first_digit [] h = absurd (omega arith)
+first_digit (d ∷ ds) h = omega arith
 
-all_digits : (k n : ℕ) → Digits (decimal_in k n)
-all_digits zero n = tt
-all_digits (suc k) n =
-    by_test (ltb n 10)
-    (λ t. rw t (last_is_digit n))
-    (λ t. rw t (digits_append (decimal_in k (n / 10)) (last_digit n ∷ []) (all_digits k (n / 10)) (last_is_digit n)))
+digits : (n : ℕ) → Digits (decimal n)
+unfolding decimal
+digits zero = ((omega arith, omega arith), tt)
+digits (suc n) = all_digits (digits_of 10 (suc n)) (all_below_base_digits_of 10 (suc n) (omega arith))
 
-spells : (k n : ℕ) → n < k → spelt 0 (decimal_in k n) ≡ n
-spells zero n h = absurd (omega arith)
-spells (suc k) n h =
-    by_test (ltb n 10)
-    (λ t. let l : n < 10 = ltb-true n 10 t in rw t (omega arith))
-    (λ t. let l : 10 ≤ n = ltb-false n 10 t in
-    rw t (spelt_append 0 (decimal_in k (n / 10)) (last_digit n ∷ []) ∙ omega (arith, spells k (n / 10) (omega arith))))
+read_back : (n : ℕ) → spelt 0 (decimal n) ≡ n
+unfolding decimal
+read_back zero = refl
+read_back (suc n) = spells 0 (digits_of 10 (suc n)) ∙ number_digits_of 10 (suc n) (omega arith)
 
-some_digit : (k n : ℕ) → 0 < length (decimal_in (suc k) n)
-some_digit k n = by_test (ltb n 10) (λ t. rw t (omega arith)) (λ t. rw t (omega (arith, length-append (decimal_in k (n / 10)) (last_digit n ∷ []))))
+no_zero_first : (n : ℕ) → 0 < n → 48 < get_or (decimal n) 0 0
+no_zero_first n h = rw (decimal_some n h) (first_digit (digits_of 10 n) (first_digits_of 10 n (omega arith) h))
 
-first_digit : (k n : ℕ) → n ≤ k → 0 < n → 48 < get_or (decimal_in (suc k) n) 0 0
-first_digit zero n h p = absurd (omega arith)
-first_digit (suc k) n h p =
-    by_test (ltb n 10)
-    (λ t. let l : n < 10 = ltb-true n 10 t in rw t (omega arith))
-    (λ t. let l : 10 ≤ n = ltb-false n 10 t in
-    rw (t, get_or-append (decimal_in (suc k) (n / 10)) (last_digit n ∷ []) 0 0 (some_digit k (n / 10))) (first_digit k (n / 10) (omega arith) (omega arith)))
-
-longer : (m : List ℕ) → 65536 < length m → program_text m ≡ ascii "refused 1 0\n"
+longer : (m : List ℕ) → 65536 < length m → program_text m ≡ codes "refused 1 0\n"
 unfolding decimal pair_text refusal_text
 longer m h = rw (lt-ltb 65536 (length m) h)
 
 not_longer : (m : List ℕ) → length m ≤ 65536 → program_text m ≡ map_text m
 not_longer m h = rw (le-ltb 65536 (length m) h)
 
-left_printed : {m : List ℕ} {left : Left} {text : List ℕ} → Printed m left text → text ≡ left_text m left
+left_printed : {left : Left} {text : List ℕ} → Printed left text → text ≡ left_text left
 left_printed (done p e) = sym (p.ends e)
-left_printed {m} (more {r = r} {new = new} p q) = ap (λ (t : List ℕ). take r.len new ++ t) (left_printed q) ∙ sym p.part
+left_printed (more {n = n} {new = new} p q) = cc (left_printed q, p.part)
 
 pub text_laws : TextLaws
-unfolding decimal pair_text owner_text line_text refusal_text lines_text zone_check words_of total
+unfolding decimal pair_text owner_text line_text refusal_text zone_check words_of total
 text_laws = record {
-  digits = λ n. all_digits (suc n) n;
-  read_back = λ n. spells (suc n) n (omega arith);
-  no_zero_first = λ n. first_digit n n (omega arith);
+  digits = digits;
+  read_back = read_back;
+  no_zero_first = no_zero_first;
   zero_is = refl;
   longer = longer;
   not_longer = not_longer;
-  all_printed = λ m left text b p. left_printed p ∙ b.all;
+  all_printed = λ m left text b p. left_printed p ∙ b;
   of_a = refl;
   of_b = refl;
   of_d = refl;

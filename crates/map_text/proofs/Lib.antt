@@ -1,8 +1,5 @@
 pub mod Digits
-pub mod Pieces
-pub mod Numbers
-pub mod Short
+pub mod Added
 pub mod Begun
-pub mod Lines
 pub mod Written
 pub mod Laws

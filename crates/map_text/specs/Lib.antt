@@ -1,4 +1,3 @@
-pub mod Ascii
 pub mod Decimal
 pub mod Text
 pub mod Parts

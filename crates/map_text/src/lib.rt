@@ -4,209 +4,181 @@
 #![tactic(auto)]
 
 ghost use Rattle.std.specs.Prelude.{◌≡◌, [], ◌∷◌, ◌++◌, ◌+◌, ◌<◌, ◌≤◌, length};
-ghost use Rattle.walk.specs.Remaining.{Stands};
-ghost use Rattle.map_text.specs.declared.Left.TheVariants as left;
-ghost use Rattle.map_text.specs.Ascii.{ascii};
-ghost use Rattle.map_text.specs.Decimal.{decimal, last_digit};
-ghost use Rattle.map_text.specs.Text.{owner_text, pair_text, input_checked};
-ghost use Rattle.map_text.specs.Parts.{Puts, Ready, Begins, IsNextPart};
+ghost use Rattle.walk.specs.LinesLeft.{lines_left};
+ghost use Rattle.map_text.specs.Decimal.{decimal};
+ghost use Rattle.map_text.specs.Text.{line_text, lines_text, refusal_text, owner_text, pair_text, input_checked};
+ghost use Rattle.map_text.specs.Parts.{Adds, Moves, left_text, Begins, IsNextPart};
 ghost use Rattle.map_text.specs.Laws.{TextLaws};
 
-use geometry::{DiscBit, Geometry, Refusal, refuse};
-use map::Checked;
+use geometry::{Geometry, Reason, Refusal};
 use std::io;
-use walk::Walk;
+use walk::Line;
 
 // What is left to print: the lines of an accepted map from a fragment on, a refusal, or nothing.
 #[derive(Clone, Copy)]
-pub enum Left {
-    Lines(Geometry, Walk),
+pub enum Left<'a> {
+    Lines(walk::Lines<'a>),
     Refused(Refusal),
     Nothing,
 }
 
-// How many bytes of the buffer are the next part of the text, and what is left after it.
-#[derive(Clone, Copy)]
-pub struct TextPart {
-    pub len: usize,
-    pub left: Left,
+// A lent buffer, of which the first `len` bytes are text.
+#[derive(Drop)]
+struct Text<'a> {
+    buffer: &'a mut [u8],
+    len: usize,
 }
 
-// Prints the text of the map that is the first n bytes of a buffer. The buffer has to have room for more than the longest map, since
-// only then does it show that a map is longer.
+// The longest map that is read, in bytes.
+pub const LONGEST_MAP: usize = 65536;
+
+// The longest text of a number of 32 bits, of two with the spaces and the line's end, and of a line; a refusal is shorter.
+const LONGEST_NUMBER: usize = 10;
+
+const LONGEST_PAIR: usize = 3 + 2 * LONGEST_NUMBER;
+
+pub const LONGEST_LINE: usize = LONGEST_NUMBER + LONGEST_PAIR;
+
+// Prints the text of the map that is the first n bytes of a buffer, part after part, until nothing is left. The buffer has to have room for more
+// than the longest map, since only then does it show that a map is longer. No contract of printing speaks of what is written, so this one says
+// nothing; the loop's invariant keeps the parts handed over so far, which with what is left are the text.
 pub fn print(rt: &impl Print, buffer: &[u8], n: usize) -> io::Result<()>
-    requires { (65536 < length buffer.now) × (n ≤ length buffer.now) }
+    requires { (LONGEST_MAP < length buffer.now) × (n ≤ length buffer.now) }
 {
+    let mut left = begin(&buffer[..n]);
     let mut text = [0u8; 4096];
-    print_parts(rt, &buffer[..n], &mut text)
-}
-
-// Part after part, until nothing is left. No contract of printing speaks of what is written, so this one says nothing; the loop's invariant
-// keeps the parts handed over so far, which with what is left are the text.
-fn print_parts(rt: &impl Print, input: &[u8], text: &mut [u8]) -> io::Result<()>
-    requires { 33 ≤ length text.old }
-{
-    let mut left = begin(input);
     loop {
-        let part = next_part(input, left, text);
-        let n = part.len;
-        if n == 0 {
+        let len = left.next_part(&mut text);
+        if len == 0 {
             return Ok(());
         }
-        rt.write_all(&text[..n])?;
-        left = part.left;
+        rt.write_all(&text[..len])?;
     }
 }
 
 // Before the first part, all of the text is left.
-pub fn begin(input: &[u8]) -> Left
+pub fn begin(input: &[u8]) -> Left<'_>
     ensures { Begins input.now result }
 {
     match check_input(input) {
-        Checked::Refused(r) => Left::Refused(r),
-        Checked::Accepted(g) => {
-            let w = walk::from_zone(input, g, 0);
-            Left::Lines(g, w)
-        }
+        Ok(g) => Left::Lines(walk::lines(input, g, 0, g.zones)),
+        Err(refusal) => Left::Refused(refusal),
     }
 }
 
-// The check of a map of up to 65,536 bytes; a longer one is treated as refusal 1.
-fn check_input(input: &[u8]) -> Checked
+// The check of a map that is not too long; a longer one is treated as refusal 1.
+fn check_input(input: &[u8]) -> Result<Geometry, Refusal>
     ensures { result ≡ input_checked input.now }
 {
-    if 65536 < input.len() {
-        return Checked::Refused(refuse(1));
+    if LONGEST_MAP < input.len() {
+        return Err(Reason::MapLength.into());
     }
     map::check(input)
 }
 
-// Puts the next part of the text at the start of a buffer, which has room for at least one line.
-pub fn next_part(map: &[u8], left: Left, text: &mut [u8]) -> TextPart
-    requires { Ready map.now left × (33 ≤ length text.old) }
-    ensures { IsNextPart map.now left text.old result text.new }
-{
-    match left {
-        Left::Nothing => TextPart {
-            len: 0,
-            left: Left::Nothing,
-        },
-        Left::Refused(r) => {
-            let len = put_refusal(r.number, r.zone, text);
-            TextPart {
-                len,
-                left: Left::Nothing,
+impl Left<'_> {
+    // Puts the next part of the text at the start of a buffer, which has room for at least one line, and leaves what comes after it. Answers how
+    // many bytes the part has: none where nothing was left.
+    pub fn next_part(&mut self, buffer: &mut [u8]) -> usize
+        requires { LONGEST_LINE ≤ length buffer.old }
+        ensures { IsNextPart self.old buffer.old result self.new buffer.new }
+    {
+        let mut text = Text { buffer, len: 0 };
+        *self = match *self {
+            Left::Lines(lines) => text.push_lines(lines),
+            Left::Refused(refusal) => {
+                text.push_refusal(refusal);
+                Left::Nothing
+            }
+            Left::Nothing => Left::Nothing,
+        };
+        text.len
+    }
+}
+
+impl Text<'_> {
+    // As many whole lines as surely fit; a line for which there may be no room starts the next part.
+    fn push_lines<'a>(&mut self, mut lines: walk::Lines<'a>) -> Left<'a>
+        requires { self.old.len + LONGEST_LINE ≤ length self.old.buffer.now }
+        ensures moved { Moves (lines_text (lines_left lines.entry)) self.old self.new (left_text result) }
+        ensures ends { self.new.len ≡ self.old.len → lines_text (lines_left lines.entry) ≡ [] }
+    {
+        while let Some(line) = lines.next() {
+            self.push_line(line);
+            if self.buffer.len() - self.len < LONGEST_LINE {
+                return Left::Lines(lines);
             }
         }
-        Left::Lines(g, w) => lines_part(map, g, w, text),
+        Left::Nothing
     }
-}
 
-// As many whole lines as surely fit; a line for which there may be no room starts the next part.
-fn lines_part(map: &[u8], g: Geometry, from: Walk, text: &mut [u8]) -> TextPart
-    requires { Stands map.now g from × (33 ≤ length text.old) }
-    ensures { IsNextPart map.now (left.Lines g from) text.old result text.new }
-{
-    let zones = g.zones;
-    let last = text.len() - 33;
-    let mut at = 0;
-    let mut w = from;
-    while w.zone < zones {
-        if last < at {
-            return TextPart {
-                len: at,
-                left: Left::Lines(g, w),
-            };
+    // A fragment's line.
+    #[tactic(auto, using(crate::proofs::Digits::ten_digits), unfolding(crate::specs::Text::owner_text))]
+    fn push_line(&mut self, line: Line)
+        requires { self.old.len + LONGEST_LINE ≤ length self.old.buffer.now }
+        ensures { Adds (line_text line) self.old self.new }
+    {
+        self.push_owner(line.holder);
+        self.push_pair(line.start.0, line.len);
+    }
+
+    // A refusal's number and the zone told.
+    fn push_refusal(&mut self, refusal: Refusal)
+        requires { self.old.len + LONGEST_LINE ≤ length self.old.buffer.now }
+        ensures { Adds (refusal_text refusal) self.old self.new }
+    {
+        self.push(b"refused");
+        self.push_pair(refusal.number(), refusal.zone);
+    }
+
+    // The owner's number; holder 0 is free space.
+    #[tactic(auto, using(crate::proofs::Digits::ten_digits), unfolding(crate::specs::Text::owner_text))]
+    fn push_owner(&mut self, holder: u32)
+        requires { self.old.len + LONGEST_NUMBER ≤ length self.old.buffer.now }
+        ensures { Adds (owner_text holder) self.old self.new }
+    {
+        if holder == 0 {
+            self.push(b"free");
+        } else {
+            self.push_number(holder);
         }
-        let s = walk::next(map, g, w);
-        let line = s.line;
-        at = put_line(line.holder, line.start, line.len, text, at);
-        w = s.after;
     }
-    TextPart {
-        len: at,
-        left: Left::Nothing,
+
+    // Two numbers, a space before each, and the line's end.
+    #[tactic(auto, using(crate::proofs::Digits::ten_digits))]
+    fn push_pair(&mut self, a: u32, b: u32)
+        requires { self.old.len + LONGEST_PAIR ≤ length self.old.buffer.now }
+        ensures { Adds (pair_text a b) self.old self.new }
+    {
+        self.push(b" ");
+        self.push_number(a);
+        self.push(b" ");
+        self.push_number(b);
+        self.push(b"\n");
     }
-}
 
-// The functions below store a piece of text from an index on and answer the index after it.
-
-// A fragment's line: at most 33 bytes, since a number of 32 bits has at most ten digits.
-fn put_line(holder: u32, start: DiscBit, len: u32, text: &mut [u8], at: usize) -> usize
-    requires { at + 33 ≤ length text.old }
-    ensures { Puts (owner_text holder ++ pair_text start.0 len) text.old at result text.new }
-{
-    let i = put_owner(holder, text, at);
-    put_pair(start.0, len, text, i)
-}
-
-fn put_refusal(number: u32, zone: u32, text: &mut [u8]) -> usize
-    requires { 33 ≤ length text.old }
-    ensures { Puts (ascii "refused" ++ pair_text number zone) text.old 0 result text.new }
-{
-    let i = put_word(b"refused", text, 0);
-    put_pair(number, zone, text, i)
-}
-
-// The owner's number; holder 0 is free space.
-fn put_owner(holder: u32, text: &mut [u8], at: usize) -> usize
-    requires { at + length (owner_text holder) ≤ length text.old }
-    ensures { Puts (owner_text holder) text.old at result text.new }
-{
-    if holder == 0 {
-        return put_word(b"free", text, at);
+    // The digits before the last, then the last. No `write!`: it can fail, and its clauses do not say when it does not.
+    #[tactic(auto, using(crate::proofs::Digits::ten_digits))]
+    fn push_number(&mut self, x: u32)
+        requires { self.old.len + LONGEST_NUMBER ≤ length self.old.buffer.now }
+        ensures { Adds (decimal x) self.old self.new }
+    {
+        if 10 <= x {
+            self.push_number(x / 10);
+        }
+        self.push(&[b'0' + (x % 10) as u8]);
     }
-    put_number(holder, text, at)
-}
 
-// Two numbers, a space before each, and the line's end.
-fn put_pair(a: u32, b: u32, text: &mut [u8], at: usize) -> usize
-    requires { at + length (pair_text a b) ≤ length text.old }
-    ensures { Puts (pair_text a b) text.old at result text.new }
-{
-    let i = put_byte(b' ', text, at);
-    let j = put_number(a, text, i);
-    let k = put_byte(b' ', text, j);
-    let l = put_number(b, text, k);
-    put_byte(b'\n', text, l)
-}
-
-// The digits before the last, then the last.
-fn put_number(x: u32, text: &mut [u8], at: usize) -> usize
-    requires { at + length (decimal x) ≤ length text.old }
-    ensures { Puts (decimal x) text.old at result text.new }
-{
-    if x < 10 {
-        return put_byte(last_digit(x), text, at);
+    // Bytes after those that are there.
+    #[tactic(auto, using(std::proofs::lemmas::Slice::overwrites))]
+    fn push(&mut self, bytes: &[u8])
+        requires { self.old.len + length bytes.now ≤ length self.old.buffer.now }
+        ensures { Adds bytes.now self.old self.new }
+    {
+        let end = self.len + bytes.len();
+        self.buffer[self.len..end].copy_from_slice(bytes);
+        self.len = end;
     }
-    let i = put_number(x / 10, text, at);
-    put_byte(last_digit(x), text, i)
-}
-
-fn last_digit(x: u32) -> u8
-    ensures { result ≡ last_digit x }
-{
-    b'0' + (x % 10) as u8
-}
-
-fn put_word(word: &[u8], text: &mut [u8], at: usize) -> usize
-    requires { at + length word.now ≤ length text.old }
-    ensures { Puts word.now text.old at result text.new }
-{
-    let mut k = 0;
-    while k < word.len() {
-        text[at + k] = word[k];
-        k += 1;
-    }
-    at + k
-}
-
-fn put_byte(byte: u8, text: &mut [u8], at: usize) -> usize
-    requires { at < length text.old }
-    ensures { Puts (byte ∷ []) text.old at result text.new }
-{
-    text[at] = byte;
-    at + 1
 }
 
 // The laws of specs/Laws, as a contract: the function does nothing.

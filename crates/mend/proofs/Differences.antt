@@ -2,7 +2,7 @@
 -- on. So positions that are stored part by part are those of the whole lists, stored at once. There are at most as many as there are
 -- bytes.
 use mathlib.Core.Path.{◌≡◌, refl, sym, ap, ◌∙◌, subst}
-use mathlib.Core.Bool.{cond, not}
+use mathlib.Core.Bool.{true, false, cond, not}
 use mathlib.Core.List.{List, [], ◌∷◌, ◌++◌}
 use Prim.Native.Nat.{ℕ, suc, ◌+◌, ◌<◌, ◌≤◌}
 use native.Mathlib.Nat.{add-zero}
@@ -54,7 +54,7 @@ module _ {at n k i : ℕ} (a b : List ℕ) {old new : List ℕ} (s : Listed at (
   pub listed_few : i ≤ length a → k ≤ n + i
   listed_few l = omega (arith, s.next, differ_few at (take i a) (take i b), length-take-le i a l)
 
-  pub byte_turn : i < length a → {after : List ℕ} {j : ℕ} → after ≡ sets new k (cond (not (eqb (get_or a i 0) (get_or b i 0))) ((at + i) ∷ []) [])
+  byte_turn : i < length a → {after : List ℕ} {j : ℕ} → after ≡ sets new k (cond (not (eqb (get_or a i 0) (get_or b i 0))) ((at + i) ∷ []) [])
       → j ≡ k + cond (not (eqb (get_or a i 0) (get_or b i 0))) 1 0 → Listed at (take (i + 1) a) (take (i + 1) b) old after n j
   byte_turn l ea ej =
       let x = get_or a i 0 in
@@ -65,6 +65,14 @@ module _ {at n k i : ℕ} (a b : List ℕ) {old new : List ℕ} (s : Listed at (
       let lb : length (take i b) ≡ i = length-take-le i b (omega arith) in
       rw (add-one, take-suc a i 0 l, take-suc b i 0 (omega arith))
       (listed_turn s (la ∙ sym lb) (x ∷ []) (y ∷ []) (at + i) (ap (λ (m : ℕ). at + m) (sym la)) (ea ∙ ap (sets new k) (sym one)) (ej ∙ ap (λ (m : ℕ). k + m) (sym count)))
+
+  module _ (l : i < length a) where
+    pub byte_kept : eqb (get_or a i 0) (get_or b i 0) ≡ true → Listed at (take (i + 1) a) (take (i + 1) b) old new n k
+    byte_kept t = byte_turn l (rw t refl) (rw t (sym (add-zero k)))
+
+    pub byte_put : eqb (get_or a i 0) (get_or b i 0) ≡ false → {after : List ℕ} {j : ℕ} → after ≡ sets new k ((at + i) ∷ []) → j ≡ k + 1
+        → Listed at (take (i + 1) a) (take (i + 1) b) old after n j
+    byte_put t ea ej = byte_turn l (rw t ea) (rw t ej)
 
   pub listed_whole : length a ≤ i → Listed at a b old new n k
   listed_whole l = subst (λ (x : Type 0). x) (λ j. Listed at (take_all i a l j) (take_all i b (omega arith) j) old new n k) s

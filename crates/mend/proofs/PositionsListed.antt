@@ -1,12 +1,12 @@
 -- The positions of the bytes that mending changes, zone after zone: the bytes before a zone's block are those of the zones before it, so
 -- the positions in it follow theirs. There are at most as many as bytes, which are few.
-use mathlib.Core.Path.{◌≡◌, refl, sym, ap, ◌∙◌, subst}
+use mathlib.Core.Path.{◌≡◌, sym, ap, ◌∙◌, subst}
 use mathlib.Core.List.{List, ◌++◌}
 use Prim.Native.Nat.{ℕ, ◌+◌, ◌-◌, ◌*◌, ◌^◌, ◌<◌, ◌≤◌}
 use native.Mathlib.Nat.{mul-le-mul_right, zero-mul, zero-add}
 use native.Mathlib.Omega.{arith}
 use lib.ListN.{length, take}
-use lib.Seq.{sets, take-add, take_at, length-take-le}
+use lib.Seq.{sets, take-add, length-take-le}
 use Rattle.bits.specs.Bits.{Bytes}
 use Rattle.geometry.specs.declared.Geometry.{Geometry}
 use Rattle.geometry.specs.Accepted.{AcceptedGeometry}
@@ -15,11 +15,9 @@ use Rattle.model.specs.Rules.{zone_block}
 use Rattle.model.proofs.ByPlace.{zone_end_law, block_length}
 use Rattle.map.specs.Accepted.{MendableMap}
 use Rattle.mended.specs.Mended.{mended, differ_from, changed_at}
-use Rattle.mend.specs.Zones.{change_of, block_mended}
 use Rattle.mend.proofs.Differences.{Listed, listed_starts, listed_turn, listed_few, listed_whole}
-use Rattle.mend.proofs.ZonesMended.{lack_of, mended_zones}
+use Rattle.mend.proofs.ZonesMended.{mended_zones}
 use Rattle.mend.proofs.ZoneMended.{block_ends}
-use Rattle.mend.proofs.ZonesInTurn.{zone_mended}
 
 -- the positions in the zones below z are listed, n of them
 abbrev pub ListedBelow : Geometry → List ℕ → List ℕ → List ℕ → ℕ → ℕ → Type 0
@@ -28,10 +26,6 @@ ListedBelow g m old new n z = Listed 0 (take (z * g.sector) m) (take (z * g.sect
 pub positions_start : (g : Geometry) (m l : List ℕ) → ListedBelow g m l l 0 0
 positions_start g m l = rw (zero-mul g.sector) (listed_starts 0 l 0)
 
--- a buffer's part for a block
-pub buffer_part : {g : Geometry} → AcceptedGeometry g → (buffer : List ℕ) → length buffer ≡ 1024 → length (take (g.sector - 0) buffer) ≡ g.sector
-buffer_part {g} ok buffer e = let h : g.sector - 0 ≡ g.sector = omega arith in length-take-le (g.sector - 0) buffer (omega (arith, ok.sector_high)) ∙ h
-
 -- every position of the map is a 32-bit number
 pub block_low : {g : Geometry} {z : ℕ} → AcceptedGeometry g → z < g.zones → z * g.sector + g.sector < 2 ^ 32
 block_low {g} {z} ok h = omega (arith, zone_end_law g.zones g.sector z h, map_small g ok)
@@ -39,14 +33,6 @@ block_low {g} {z} ok h = omega (arith, zone_end_law g.zones g.sector z h, map_sm
 module _ {m : List ℕ} {g : Geometry} (a : MendableMap m g) (bytes : Bytes m) where
   same_size : length m ≡ length (mended m)
   same_size = a.readable.sized ∙ sym (mended_zones a bytes).long
-
-  -- a block as it comes back in the buffer's part
-  pub block_back : {z : ℕ} → z < g.zones → {change lack : ℕ} → lack ≡ lack_of g m → change ≡ change_of z lack → (b rest : List ℕ) → b ≡ block_mended g m z change
-      → take (g.sector - 0) (b ++ rest) ≡ zone_block g (mended m) z
-  block_back {z} h el ec b rest eb =
-      let e : b ≡ zone_block g (mended m) z = eb ∙ zone_mended a bytes m z refl h el ec in
-      let sized : length b ≡ g.sector = ap length e ∙ block_length (mended m) g.zones g.sector (mended_zones a bytes).long z h in
-      take_at b rest (g.sector - 0) (omega arith) ∙ e
 
   module _ {old new : List ℕ} {n z : ℕ} (s : ListedBelow g m old new n z) where
     module _ (h : z < g.zones) {b : List ℕ} (eb : b ≡ zone_block g (mended m) z) where

@@ -30,7 +30,7 @@ module _ {m : List ℕ} {g : Geometry} (a : MendableMap m g) (bytes : Bytes m) w
 
   -- a zone whose block is the old one
   module _ (now : List ℕ) (z : ℕ) (same : zone_block g now z ≡ zone_block g m z) (h : z < g.zones) where
-    pub zone_mend : ReadableFrom now g z → {room : ℕ} → 2048 ≤ room → ZoneMend now g z room
+    pub zone_mend : ReadableFrom now g z → {room : ℕ} → 682 ≤ room → ZoneMend now g z room
     zone_mend reads r = record {
       reads = reads;
       zone = h;
@@ -51,7 +51,7 @@ module _ {m : List ℕ} {g : Geometry} (a : MendableMap m g) (bytes : Bytes m) w
       old_block : zone_block g now z ≡ zone_block g m z
       old_block = next_block w h
 
-      pub next_mend : {room : ℕ} → 2048 ≤ room → ZoneMend now g z room
+      pub next_mend : {room : ℕ} → 682 ≤ room → ZoneMend now g z room
       next_mend r = zone_mend now z old_block h (record {
         numbers = a.readable.numbers;
         sized = w.kept ∙ whole;

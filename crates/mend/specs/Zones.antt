@@ -23,7 +23,7 @@ own_pieces g m z = without 0 (zone_pieces g m z)
 pub record ZoneMend (m : List ℕ) (g : Geometry) (z room : ℕ) : Type 0 where
   pub reads : ReadableFrom m g z
   pub zone : z < g.zones
-  pub fits : 2048 ≤ room
+  pub fits : 682 ≤ room
   pub drawable : Drawable g.idlen (first_bit z) (end_bit g) (map (to_block g z) (own_pieces g m z))
 
 -- zone z's block mended, where its cross check changes by so much

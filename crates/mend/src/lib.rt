@@ -6,6 +6,7 @@
 ghost use Rattle.std.specs.Prelude.{◌≡◌, cond, [], ◌∷◌, ◌+◌, ◌*◌, ◌<◌, ◌≤◌, ◌^◌, length};
 ghost use mathlib.Core.List as list_of;
 ghost use Rattle.std.proofs.lemmas.List.Edits.{sets};
+ghost use Rattle.bits.specs.Bits.{Bytes};
 ghost use Rattle.checks.specs.Cross.{cross_of};
 ghost use Rattle.geometry.specs.Accepted.{AcceptedGeometry};
 ghost use Rattle.model.specs.Check.{blocks_of};
@@ -15,52 +16,30 @@ ghost use Rattle.mended.specs.Mended.{lacking, mended, differ_from, changed_at};
 ghost use Rattle.mend.specs.Mends.{Mending, ListsChanges};
 ghost use Rattle.mend.specs.Zones.{change_of, ZoneMend, block_mended};
 
-use geometry::{Geometry, Refusal, refuse};
-use map::Checked;
-
-// The map is mended, or a refusal.
-#[derive(Clone, Copy)]
-pub enum Mended {
-    Done,
-    Refused(Refusal),
-}
-
-// How many positions were listed, or a refusal.
-#[derive(Clone, Copy)]
-pub enum Changes {
-    Positions(usize),
-    Refused(Refusal),
-}
+use geometry::{Geometry, Reason, Refusal};
+use writer::{MOST_LINES, Piece};
 
 // Mends a map. Refused: 1, 2, 5, 6, 7 as `map::check_zones`; a refusal changes no byte.
-pub fn mend(map: &mut [u8]) -> Mended
+pub fn mend(map: &mut [u8]) -> Result<(), Refusal>
     ensures { Mending map.old result map.new }
 {
-    match map::check_zones(map) {
-        Checked::Refused(r) => Mended::Refused(r),
-        Checked::Accepted(g) => {
-            mend_zones(map, g);
-            Mended::Done
-        }
-    }
+    let geometry = map::check_zones(map)?;
+    mend_zones(map, geometry);
+    Ok(())
 }
 
 // Lists the positions of the bytes that `mend` would change, ascending. Refused: as `mend`, then 17; a refusal changes no entry.
-pub fn mend_positions(map: &[u8], list: &mut [u32]) -> Changes
+pub fn mend_positions(map: &[u8], list: &mut [u32]) -> Result<usize, Refusal>
     ensures { ListsChanges map.now list.old result list.new }
 {
-    match map::check_zones(map) {
-        Checked::Refused(r) => Changes::Refused(r),
-        Checked::Accepted(g) => {
-            // Lent no entries, it counts and writes nothing.
-            let n = list_changes(map, g, &mut list[0..0]);
-            if list.len() < n {
-                return Changes::Refused(refuse(17));
-            }
-            list_changes(map, g, list);
-            Changes::Positions(n)
-        }
+    let g = map::check_zones(map)?;
+    // Lent no entries, it counts and writes nothing.
+    let n = list_changes(map, g, &mut list[..0]);
+    if list.len() < n {
+        return Err(Reason::Entries.into());
     }
+    list_changes(map, g, list);
+    Ok(n)
 }
 
 // Mends the zones one by one.
@@ -68,20 +47,18 @@ fn mend_zones(map: &mut [u8], g: Geometry)
     requires { MendableMap map.old g }
     ensures { map.new ≡ mended map.old }
 {
-    let zones = g.zones;
-    let mut pieces = [0u32; 2048];
+    let mut pieces = [Piece::NONE; MOST_LINES];
     let lack = cross_lack(map, g);
-    let mut z = 0;
-    while z < zones {
+    for z in 0..g.zones {
         mend_zone(map, g, z, change_of(z, lack), &mut pieces);
-        z += 1;
     }
 }
 
 // What the cross checks lack to give 255.
 fn cross_lack(map: &[u8], g: Geometry) -> u8
     requires { AcceptedGeometry g × (length map.now ≡ g.zones * g.sector) }
-    ensures { result ≡ lacking (list_of.map cross_of (blocks_of g map.now)) }
+    ensures lack { result ≡ lacking (list_of.map cross_of (blocks_of g map.now)) }
+    ensures bytes { Bytes map.now }
 {
     map::cross_checks(map, g) ^ 255
 }
@@ -90,21 +67,16 @@ fn cross_lack(map: &[u8], g: Geometry) -> u8
 fn change_of(z: usize, lack: u8) -> u8
     ensures { result ≡ change_of z lack }
 {
-    if z == 0 {
-        return lack;
-    }
-    0
+    if z == 0 { lack } else { 0 }
 }
 
 // Draws zone z anew.
-fn mend_zone(map: &mut [u8], g: Geometry, z: usize, change: u8, pieces: &mut [u32])
+fn mend_zone(map: &mut [u8], g: Geometry, z: usize, change: u8, pieces: &mut [Piece])
     requires { ZoneMend map.old g z (length pieces.old) }
     ensures { map.new ≡ zone_put g z map.old (block_mended g map.old z change) }
 {
     let n = writer::staying(map, g, z, 0, pieces);
-    let a = z * g.sector;
-    let e = a + g.sector;
-    writer::draw_zone(&mut map[a..e], z, g, pieces, n, change);
+    writer::draw_zone(&mut map[g.block(z)], z, g, &pieces[..n], change);
 }
 
 // Writes the positions of the bytes that `mend` would change, as many as there is room for. Answers how many there are.
@@ -112,40 +84,33 @@ fn list_changes(map: &[u8], g: Geometry, list: &mut [u32]) -> usize
     requires { MendableMap map.now g }
     ensures { (result ≡ length (changed_at map.now)) × (list.new ≡ sets list.old 0 (changed_at map.now)) }
 {
-    let zones = g.zones;
-    let size = g.sector;
-    let mut pieces = [0u32; 2048];
+    let mut pieces = [Piece::NONE; MOST_LINES];
     let mut block = [0u8; 1024];
     let lack = cross_lack(map, g);
     let mut n = 0;
-    let mut z = 0;
-    while z < zones {
-        let a = z * size;
-        let e = a + size;
-        mended_block(
-            map,
-            g,
-            z,
-            change_of(z, lack),
-            &mut pieces,
-            &mut block[0..size],
-        );
-        n = list_differing(&map[a..e], &block[0..size], a, list, n);
-        z += 1;
+    for z in 0..g.zones {
+        let new = &mut block[..g.sector];
+        mended_block(map, g, z, change_of(z, lack), &mut pieces, new);
+        n = list_differing(map::block(map, g, z), new, z * g.sector, list, n);
     }
     n
 }
 
 // Zone z's block as `mend` would leave it, into `block`.
-fn mended_block(map: &[u8], g: Geometry, z: usize, change: u8, pieces: &mut [u32], block: &mut [u8])
+fn mended_block(
+    map: &[u8],
+    g: Geometry,
+    z: usize,
+    change: u8,
+    pieces: &mut [Piece],
+    block: &mut [u8],
+)
     requires { ZoneMend map.now g z (length pieces.old) × (length block.old ≡ g.sector) }
     ensures { block.new ≡ block_mended g map.now z change }
 {
-    let a = z * g.sector;
-    let e = a + g.sector;
-    block.copy_from_slice(&map[a..e]);
+    block.copy_from_slice(map::block(map, g, z));
     let n = writer::staying(map, g, z, 0, pieces);
-    writer::draw_zone(block, z, g, pieces, n, change);
+    writer::draw_zone(block, z, g, &pieces[..n], change);
 }
 
 // Writes the positions at which two blocks differ, counted from `at`, from entry n of a list on, as many as there is room for. Answers
@@ -156,23 +121,20 @@ fn list_differing(old: &[u8], new: &[u8], at: usize, list: &mut [u32], n: usize)
     ensures next { result ≡ n + length (differ_from at old.now new.now) }
 {
     let mut k = n;
-    let mut i = 0;
-    while i < old.len() {
-        k = put_if(old[i] != new[i], at + i, list, k);
-        i += 1;
+    for i in 0..old.len() {
+        if old[i] != new[i] {
+            k = put(at + i, list, k);
+        }
     }
     k
 }
 
-// Writes a position at entry n, if it is wanted and there is room. Answers the entry after it.
-fn put_if(wanted: bool, position: usize, list: &mut [u32], n: usize) -> usize
+// Writes a position at entry n, if there is room. Answers the entry after it.
+fn put(position: usize, list: &mut [u32], n: usize) -> usize
     requires { (position < 2 ^ 32) × (n < 2 ^ 32) }
-    ensures list { list.new ≡ sets list.old n (cond wanted (position ∷ []) []) }
-    ensures next { result ≡ n + cond wanted 1 0 }
+    ensures list { list.new ≡ sets list.old n (position ∷ []) }
+    ensures next { result ≡ n + 1 }
 {
-    if !wanted {
-        return n;
-    }
     if list.len() <= n {
         return n + 1;
     }

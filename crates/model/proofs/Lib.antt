@@ -16,3 +16,4 @@ pub mod LinesJudged
 pub mod ZoneTests
 pub mod Lists
 pub mod MapTests
+pub mod Numbered

@@ -4,57 +4,63 @@ use mathlib.Core.Path.{◌≡◌, refl, sym, ap, ◌∙◌, subst, subst⁻¹}
 use mathlib.Core.Bool.{true, false}
 use mathlib.Core.List.{List, ◌++◌}
 use mathlib.Core.Option.{none}
-use Prim.Native.Nat.{ℕ, ◌-◌, ◌*◌, ◌≤◌}
+use Prim.Native.Nat.{ℕ, ◌*◌, ◌≤◌}
 use native.Mathlib.Omega.{arith}
 use lib.ListN.{length, take, drop, length-append}
 use lib.Seq.{take_at}
+use Rattle.std.specs.Prelude.{Result, Ok, Err, Some}
+use Rattle.std.specs.Result.{IsErr, IsErrAnd}
 use Rattle.geometry.specs.declared.Geometry.{Geometry}
 use Rattle.geometry.specs.declared.Refusal.{Refusal}
-use Rattle.geometry.specs.Answers.{refusal}
+use Rattle.geometry.specs.Answers.{number, refusal}
+use Rattle.geometry.proofs.Results.{handed_on}
+use Rattle.model.specs.Answer.{Answer, refused, answered}
 use Rattle.model.specs.Chain.{Pair, numbers_of, touching}
+use Rattle.model.specs.Shown.{zones_of, pieces_on, object_on}
 use Rattle.model.proofs.Lists.{length_numbers}
+use Rattle.model.proofs.Numbered.{told_by}
 use Rattle.map.specs.Accepted.{AcceptedMap}
 use Rattle.map.specs.Checked.{checked}
-use Rattle.map.specs.declared.Checked.TheVariants as check
-use Rattle.edits.specs.Edits.{takes, Edit}
+use Rattle.walk.specs.Touching.{touching_of}
+use Rattle.listing.specs.Listed.{object_found, list_answer, list_after, Lists}
+use Rattle.listing.proofs.Answers.{refusal_lists}
+use Rattle.edits.specs.Edits.{takes}
 use Rattle.edits.specs.Judge.{editable, judge, pairs_from}
 use Rattle.edits.specs.Judge as call
-use Rattle.model.specs.Answer.{Answer, refused, answered}
-use Rattle.edits.specs.Steps.{outcome, pairs_told, bytes_after, step}
-use Rattle.model.specs.Shown.{zones_of, pieces_on, object_on}
-use Rattle.listing.specs.Listed.{object_found, Lists}
-use Rattle.listing.specs.Listed as list
-use Rattle.listing.specs.declared.Listed.{Listed}
-use Rattle.listing.specs.declared.Listed.TheVariants as listed
-use Rattle.walk.specs.Touching.{touching_of}
+use Rattle.edits.specs.Steps.{outcome, pairs_told, bytes_after}
 use Rattle.edits.specs.EditableMap.{EditableMap}
-use Rattle.walk.specs.declared.Touching.TheVariants as told
-use Rattle.edits.proofs.Outcomes.{check_refused, id_refused, touching_refused, judged_told}
-use Rattle.release.specs.Released.{Releases}
-use Rattle.release.proofs.ListedVerdict.{listing, verdict_of, judged_as_listed, refused_told, found_told, some_told, found_is, object_fits}
 use Rattle.edits.proofs.EditableMap.{map_pieces}
+use Rattle.edits.proofs.Outcomes.{check_refused, id_refused, touching_refused, judged_told}
 use Rattle.edits.proofs.Returned.{pairs_numbers}
 use Rattle.writer.specs.Edited.{edit_of, EditAsks, edited_map}
+use Rattle.release.specs.Released.{Releases}
+use Rattle.release.proofs.ListedVerdict.{listing, verdict_of, judged_as_listed, told_back, nothing_written, Found, found_told, found_is, object_fits}
 
-refusal_releases : (m : List ℕ) (id : ℕ) (old : List ℕ) (n z : ℕ) → outcome m (call.release id (length old)) ≡ refused n z → Releases m id old (listed.Refused (refusal n z)) m old
-refusal_releases m id old n z e =
-    record { lists = subst⁻¹ (λ (x : Answer Edit). Lists (pairs_told x) old (listed.Refused (refusal n z)) old) e (record { answer = refl; numbers = refl; list = refl }); bytes = sym (ap (bytes_after m) e) }
+refusal_releases : {m : List ℕ} {id : ℕ} {old : List ℕ} {r : Refusal} → outcome m (call.release id (length old)) ≡ refused (number r.reason) r.zone → Releases m id old (Err r) m old
+refusal_releases {m} {id} {old} e = record { lists = refusal_lists old (ap pairs_told e); bytes = sym (ap (bytes_after m) e) }
 
-pub check_refuses : (m : List ℕ) (id : ℕ) (old : List ℕ) (r : Refusal) → checked m ≡ check.Refused r → Releases m id old (listed.Refused r) m old
-check_refuses m id old r e = refusal_releases m id old r.number r.zone (check_refused m (call.release id (length old)) r e)
+pub check_refuses : (m : List ℕ) (id : ℕ) (old : List ℕ) {c : Result Geometry Refusal} {r : Refusal} → c ≡ checked m → c ≡ Err r
+    → {q : Result ℕ Refusal} → IsErr q × IsErrAnd q (λ y. y ≡ r) → Releases m id old q m old
+check_refuses m id old {r = r} e k {q} h =
+    subst⁻¹ (λ (x : Result ℕ Refusal). Releases m id old x m old) (handed_on q h) (refusal_releases (check_refused m (call.release id (length old)) r (sym e ∙ k)))
 
 module _ {m : List ℕ} {g : Geometry} (a : AcceptedMap m g) (id : ℕ) (old : List ℕ) where
   -- 8
-  pub not_named : {r : Refusal} → r ≡ refusal 8 0 → editable g id ≡ false → Releases m id old (listed.Refused r) m old
-  not_named er e = rw er (refusal_releases m id old 8 0 (id_refused a (call.release id (length old)) e))
+  pub not_named : {r : Refusal} → r ≡ refusal 8 0 → editable g id ≡ false → Releases m id old (Err r) m old
+  not_named er e = refusal_releases (told_by 8 refl (id_refused a (call.release id (length old)) e) er)
 
   -- 9
-  pub touching_refuses : editable g id ≡ true → (z : ℕ) → touching_of (touching 0 (zones_of m)) ≡ told.Zone z → Releases m id old (listed.Refused (refusal 9 z)) m old
-  touching_refuses e z t = refusal_releases m id old 9 z (touching_refused a (call.release id (length old)) e z t)
+  pub touching_refuses : editable g id ≡ true → (z : ℕ) → touching_of (touching 0 (zones_of m)) ≡ Some z → Releases m id old (Err (refusal 9 z)) m old
+  touching_refuses e z t = refusal_releases (touching_refused a (call.release id (length old)) e z t)
 
--- on a map that edits work on: the answer and the list are the listing's. 10 and 17 leave the map as it was
-module _ {m : List ℕ} {g : Geometry} (e : EditableMap m g) (id : ℕ) (named : editable g id ≡ true) {old new : List ℕ} {r : Listed}
-    (l : Lists (object_found m id (length old)) old r new) where
+-- on a map that edits work on, with an id that they name: r is what the listing answers, and the lent list becomes `new`
+pub record Listing (m : List ℕ) (g : Geometry) (id : ℕ) (old new : List ℕ) (r : Result ℕ Refusal) : Type 0 where
+  pub sound : EditableMap m g
+  pub named : editable g id ≡ true
+  pub lists : Lists (object_found m id (length old)) old r new
+
+-- the answer and the list are the listing's
+module _ {m : List ℕ} {g : Geometry} {id : ℕ} {old new : List ℕ} {r : Result ℕ Refusal} (l : Listing m g id old new r) where
   abbrev room : ℕ
   room = length old
 
@@ -62,63 +68,57 @@ module _ {m : List ℕ} {g : Geometry} (e : EditableMap m g) (id : ℕ) (named :
   qs = object_on g m id
 
   found : object_found m id (length old) ≡ listing (length old) (object_on g m id)
-  found = found_is e id room named
+  found = found_is l.sound id room l.named
 
-  told_is : (x : Listed) → r ≡ x → list.list_answer (listing (length old) (object_on g m id)) ≡ x
-  told_is x t = ap list.list_answer (sym found) ∙ sym l.answer ∙ t
+  told : {x : Result ℕ Refusal} → r ≡ x → list_answer (listing (length old) (object_on g m id)) ≡ x
+  told t = ap list_answer (sym found) ∙ sym l.lists.answer ∙ t
 
   verdict : judge g none (pieces_on g m) (call.release id (length old)) ≡ verdict_of id (listing (length old) (object_on g m id))
-  verdict = judged_as_listed g (pieces_on g m) id room named
+  verdict = judged_as_listed g (pieces_on g m) id room l.named
 
-  as_listed : (x : Listed) → r ≡ x → pairs_told (outcome m (call.release id (length old))) ≡ listing (length old) (object_on g m id)
-      → (after : List ℕ) → after ≡ step m (call.release id (length old)) → Releases m id old x after new
-  as_listed x t p after b =
-      subst (λ (y : Listed). Releases m id old y after new) t (record { lists = subst⁻¹ (λ (f : Answer (List Pair)). Lists f old r new) (p ∙ sym found) l; bytes = b })
+  outcome_is : outcome m (call.release id (length old)) ≡ verdict_of id (listing (length old) (object_on g m id))
+  outcome_is = judged_told l.sound (call.release id room) (verdict_of id (listing room qs)) verdict
 
-  pub listing_refuses : {q : Refusal} → r ≡ listed.Refused q → Releases m id old (listed.Refused q) m new
-  listing_refuses {q} t =
-      let k = refused_told room qs q (told_is (listed.Refused q) t) in
-      let o = judged_told e (call.release id room) (refused k.0 0) (verdict ∙ ap (verdict_of id) k.1) in
-      as_listed (listed.Refused q) t (ap pairs_told o ∙ sym k.1) m (sym (ap (bytes_after m) o))
+  same_lists : Lists (pairs_told (outcome m (call.release id (length old)))) old r new
+  same_lists =
+      subst⁻¹ (λ (f : Answer (List Pair)). Lists f old r new) (ap pairs_told outcome_is ∙ told_back id (listing room qs) ∙ sym found) l.lists
 
-  module _ {n : ℕ} (t : r ≡ listed.Pairs n) where
-    -- the pairs told are the object's
-    pairs_are : listing (length old) (object_on g m id) ≡ answered (object_on g m id)
-    pairs_are = found_told room qs n (told_is (listed.Pairs n) t)
+  -- 10 and 17 leave the map as it was
+  pub listing_refuses : {y : Refusal} → r ≡ Err y → {q : Result ℕ Refusal} → IsErr q × IsErrAnd q (λ x. x ≡ y) → Releases m id old q m new
+  listing_refuses t {q} h =
+      subst (λ (x : Result ℕ Refusal). Releases m id old x m new) (t ∙ sym (handed_on q h))
+      (record { lists = same_lists; bytes = sym (ap (bytes_after m) outcome_is ∙ nothing_written m id (listing room qs) (told t)) })
 
-    -- and they are the first of the list
-    count : n ≡ length (object_on g m id)
-    count = let e : listed.Pairs n ≡ listed.Pairs (length qs) = sym t ∙ l.answer ∙ ap list.list_answer (found ∙ pairs_are) in cc
+  module _ {n : ℕ} (t : r ≡ Ok n) where
+    is_found : Found (length old) (object_on g m id) n
+    is_found = found_told room qs n (told t)
 
     new_is : new ≡ numbers_of (object_on g m id) ++ drop (2 * length (object_on g m id)) old
-    new_is = l.list ∙ ap (list.list_after old) (found ∙ pairs_are)
+    new_is = l.lists.list ∙ ap (list_after old) (found ∙ is_found.told)
 
-    pub pairs_in_law : 2 * n ≤ length new
-    pairs_in_law = omega (arith, count, length_numbers qs, ap length new_is ∙ length-append (numbers_of qs) (drop (2 * length qs) old))
+    pub pairs_inside : 2 * n ≤ length new
+    pairs_inside = omega (arith, is_found.count, length_numbers qs, ap length new_is ∙ length-append (numbers_of qs) (drop (2 * length qs) old))
 
-    first_told : take (2 * n - 0) (drop 0 new) ≡ numbers_of (object_on g m id)
-    first_told =
-        let k : length (numbers_of qs) ≡ 2 * n - 0 = omega (arith, length_numbers qs, count) in
-        ap (take (2 * n - 0)) new_is ∙ take_at (numbers_of qs) (drop (2 * length qs) old) (2 * n - 0) k
+    -- the pairs are the first of the list
+    pairs_first : take (2 * n) new ≡ numbers_of (object_on g m id)
+    pairs_first =
+        ap (take (2 * n)) new_is ∙ take_at (numbers_of qs) (drop (2 * length qs) old) (2 * n) (omega (arith, length_numbers qs, is_found.count))
 
-    edit_judged : judge g none (pieces_on g m) (call.release id (length old)) ≡ answered (takes id (object_on g m id))
-    edit_judged = verdict ∙ ap (verdict_of id) pairs_are
+    edit_judged : judge g none (pieces_on g m) (call.release id (length old)) ≡ answered (takes id (pairs_from (take (2 * n) new)))
+    edit_judged =
+        verdict ∙ ap (verdict_of id) is_found.told ∙ ap (λ (ps : List Pair). answered (takes id ps)) (sym (ap pairs_from pairs_first ∙ pairs_numbers qs))
 
     -- so the edit can be made: an object's pairs are in its order
-    pub edit_asks : EditAsks m g id (take (2 * n - 0) (drop 0 new)) 0
-    edit_asks =
-        subst⁻¹ (λ (x : List ℕ). EditAsks m g id x 0) first_told
-        (record {
-          editable = e;
-          one_way = λ k. absurd (k refl);
-          ordered = record { object = id; fits = object_fits e.accepted.readable.numbers (map_pieces e) id (some_told room qs n (told_is (listed.Pairs n) t)) };
-          call = call.release id room;
-          judged = edit_judged ∙ ap (λ (ps : List Pair). answered (takes id ps)) (sym (pairs_numbers qs));
-        })
+    pub edit_asks : EditAsks m g id (take (2 * n) new) 0
+    edit_asks = record {
+      editable = l.sound;
+      one_way = λ k. absurd (k refl);
+      ordered = record { object = id; fits = rw pairs_first (object_fits l.sound.accepted.readable.numbers (map_pieces l.sound) id is_found.some) };
+      call = call.release id room;
+      judged = edit_judged;
+    }
 
-    pub listing_releases : (after : List ℕ) → after ≡ edited_map m (edit_of id (pairs_from (take (2 * n - 0) (drop 0 new))) 0) → Releases m id old (listed.Pairs n) after new
+    pub listing_releases : (after : List ℕ) → after ≡ edited_map m (edit_of id (pairs_from (take (2 * n) new)) 0) → Releases m id old (Ok n) after new
     listing_releases after w =
-        let o = judged_told e (call.release id room) (answered (takes id qs)) edit_judged in
-        let p : pairs_from (take (2 * n - 0) (drop 0 new)) ≡ qs = ap pairs_from first_told ∙ pairs_numbers qs in
-        as_listed (listed.Pairs n) t (ap pairs_told o ∙ sym pairs_are) after
-        (w ∙ ap (λ (ps : List Pair). edited_map m (takes id ps)) p ∙ sym (ap (bytes_after m) o))
+        subst (λ (x : Result ℕ Refusal). Releases m id old x after new) t
+        (record { lists = same_lists; bytes = w ∙ sym (ap (bytes_after m) (judged_told l.sound (call.release id room) _ edit_judged)) })

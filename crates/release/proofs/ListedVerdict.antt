@@ -9,6 +9,7 @@ use native.Mathlib.Omega.{arith}
 use lib.Dec.{eqb, leb, ltb}
 use lib.ListN.{length}
 use borrow.Author.Tests.{eq-eqb, lt-ltb, le-leb, leb-true}
+use Rattle.std.specs.Prelude.{Ok, Err}
 use Rattle.bits.proofs.Tests.{by_test, both, and_true}
 use Rattle.geometry.specs.declared.Geometry.{Geometry}
 use Rattle.geometry.specs.declared.Refusal.{Refusal}
@@ -21,9 +22,9 @@ use Rattle.edits.specs.Edits.{takes, Edit}
 use Rattle.model.specs.Answer.{Answer, refused, answered, unless, and_then}
 use Rattle.edits.specs.Judge.{is_empty, editable, list_fits, judge}
 use Rattle.edits.specs.Judge as judged
+use Rattle.edits.specs.Steps.{pairs_told, bytes_after}
 use Rattle.model.specs.Shown.{pieces_on}
 use Rattle.listing.specs.Listed.{with_room, present, object_read, object_found, list_answer}
-use Rattle.listing.specs.declared.Listed.TheVariants as listed
 use Rattle.edits.specs.EditableMap.{EditableMap}
 use Rattle.edits.proofs.EditableMap.{with_record}
 use Rattle.geometry.specs.Accepted.{AcceptedGeometry}
@@ -61,25 +62,27 @@ pub judged_as_listed : (g : Geometry) (l : List Piece) (id room : ℕ) → edita
 judged_as_listed g l id room e =
     rw (e, empty_alike (pieces_of id l) (object_pairs g id l) (sym (pairs_count g id l))) (by_room id room (object_pairs g id l))
 
--- a refusal of the listing of an accepted map tells zone 0, as the verdict's does
-pub refused_told : (room : ℕ) (qs : List Pair) (r : Refusal) → list_answer (listing room qs) ≡ listed.Refused r → (n : ℕ) × (listing room qs ≡ refused n 0)
-refused_told room [] r e = (10, refl)
-refused_told room (q ∷ qs) r e =
-    by_test (leb (2 * length (q ∷ qs)) room)
-    (λ t. let k : listed.Pairs _ ≡ listed.Refused r = rw t at e in let x : ◌≡◌ {A = ℕ} 0 1 = cc in absurd (omega arith))
-    (λ t. (17, rw t))
+-- the verdict tells the listing's pairs, and where the listing refuses nothing is written
+pub told_back : (id : ℕ) (x : Answer (List Pair)) → pairs_told (verdict_of id x) ≡ x
+told_back id (refused n z) = refl
+told_back id (answered qs) = refl
 
--- pairs told are the object's
-pub found_told : (room : ℕ) (qs : List Pair) (n : ℕ) → list_answer (listing room qs) ≡ listed.Pairs n → listing room qs ≡ answered qs
-found_told room [] n e = let x : ◌≡◌ {A = ℕ} 0 1 = cc in absurd (omega arith)
+pub nothing_written : (m : List ℕ) (id : ℕ) (x : Answer (List Pair)) {r : Refusal} → list_answer x ≡ Err r → bytes_after m (verdict_of id x) ≡ m
+nothing_written m id (refused n z) e = refl
+nothing_written m id (answered qs) e = cc
+
+-- pairs told are the object's, and there are some
+pub record Found (room : ℕ) (qs : List Pair) (n : ℕ) : Type 0 where
+  pub told : listing room qs ≡ answered qs
+  pub count : n ≡ length qs
+  pub some : qs ≡ [] → ⊥
+
+pub found_told : (room : ℕ) (qs : List Pair) (n : ℕ) → list_answer (listing room qs) ≡ Ok n → Found room qs n
+found_told room [] n e = cc
 found_told room (q ∷ qs) n e =
     by_test (leb (2 * length (q ∷ qs)) room)
-    (λ t. rw t)
-    (λ t. let k : listed.Refused _ ≡ listed.Pairs n = rw t at e in let x : ◌≡◌ {A = ℕ} 0 1 = cc in absurd (omega arith))
-
-pub some_told : (room : ℕ) (qs : List Pair) (n : ℕ) → list_answer (listing room qs) ≡ listed.Pairs n → qs ≡ [] → ⊥
-some_told room [] n e k = let x : ◌≡◌ {A = ℕ} 0 1 = cc in omega arith
-some_told room (q ∷ qs) n e k = let x : ◌≡◌ {A = ℕ} 0 1 = cc in omega arith
+    (λ t. let k : Ok (length (q ∷ qs)) ≡ Ok n = rw t at e in record { told = rw t; count = cc; some = λ s. cc })
+    (λ t. let k : Err _ ≡ Ok n = rw t at e in cc)
 
 -- an object's pairs are a list in its order
 pub object_fits : {g : Geometry} {l : List Piece} → AcceptedGeometry g → AcceptedPieces g l → (id : ℕ) → (object_pairs g id l ≡ [] → ⊥) → list_fits g id (numbers_of (object_pairs g id l)) ≡ true

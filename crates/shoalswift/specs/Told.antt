@@ -1,6 +1,8 @@
 -- What the exported functions promise: the numbers told, as the table gives them for what a call finds, and every lent byte. The numbers
 -- are the refusal (0: accepted), the zone told, and what the call answers besides. Assumes nothing.
-use Rattle.std.specs.Prelude.{◌≡◌, List, ℕ, length}
+use Rattle.std.specs.Prelude.{◌≡◌, List, ℕ, length, Result, Ok, Err}
+use Rattle.geometry.specs.declared.Refusal.{Refusal}
+use Rattle.geometry.specs.Answers.{number}
 use Rattle.model.specs.Answer.{Answer}
 use Rattle.model.specs.Chain.{Pair}
 use Rattle.edits.specs.Judge.{release, place, claim}
@@ -15,6 +17,11 @@ use Rattle.mended.specs.Mended.{mended, positions_found}
 use Rattle.mend.specs.Mends.{mend_told, positions_told, positions_after}
 use Rattle.formatted.specs.Drawn.{format_found, buffer_after}
 use Rattle.format.specs.Formats.{format_told}
+
+-- an answer as numbers: 0, zone 0 and its value, or the refusal's number, its zone, and what stands for none
+abbrev pub told : {T : Type 0} → T → Result T Refusal → ℕ × ℕ × T
+told none (Ok x) = (0, 0, x)
+told none (Err r) = (number r.reason, r.zone, none)
 
 -- a listing, by what it finds with so much room
 pub record ListTold (found : ℕ → Answer (List Pair)) (old : List ℕ) (told : ℕ × ℕ × ℕ) (new : List ℕ) : Type 0 where

@@ -7,39 +7,25 @@
 ghost use Rattle.std.specs.Prelude.{◌≡◌};
 ghost use Rattle.model.specs.Check.{map_read};
 ghost use Rattle.map.specs.Checked.{checked, check_told};
-ghost use Rattle.listing.specs.Listed.{object_found, free_found, list_numbers};
+ghost use Rattle.listing.specs.Listed.{object_found, free_found};
 ghost use Rattle.address.specs.Address.{location_found, address_told};
-ghost use Rattle.sweep.specs.Sweep.{object_sweep, free_sweep, sweep_numbers};
+ghost use Rattle.sweep.specs.Sweep.{object_sweep, free_sweep};
 ghost use Rattle.copies.specs.Copies.{copy_found, same_bytes, choice_told, addresses_found, addresses_told};
 ghost use Rattle.formatted.specs.Drawn.{length_found};
 ghost use Rattle.format.specs.Formats.{length_told};
 ghost use Rattle.shoalswift.specs.Geometry.{geometry_numbers};
-ghost use Rattle.shoalswift.specs.Told.{ListTold, SweepTold, ReleaseTold, PlaceTold, ClaimTold, CopyTold, MendTold, PositionsTold, FormatTold};
+ghost use Rattle.shoalswift.specs.Told.{told, ListTold, SweepTold, ReleaseTold, PlaceTold, ClaimTold, CopyTold, MendTold, PositionsTold, FormatTold};
 
-use address::Reached;
-use claim::Claimed;
-use copies::{Copied, Located};
-use format::{Formatted, MapLength};
-use listing::Listed;
-use map::Checked;
-use mend::{Changes, Mended};
-use place::Placed;
-use sweep::Swept;
+use address::Location;
+use claim::Given;
+use copies::Addresses;
+use geometry::Refusal;
 
 // Checks a map.
 pub fn shoalswift_check(map: &[u8], zone: &mut u32) -> u32
     ensures { (result, zone.new) ≡ check_told (map_read map.now) }
 {
-    match map::check(map) {
-        Checked::Accepted(_) => {
-            *zone = 0;
-            0
-        }
-        Checked::Refused(r) => {
-            *zone = r.zone;
-            r.number
-        }
-    }
+    told(map::check(map).and(Ok(())), (), zone).0
 }
 
 // The geometry of an accepted map: S, B, nzones, P (the ids per zone) and disc_size, so that no caller has to read the record.
@@ -56,7 +42,7 @@ pub fn shoalswift_geometry(
         ≡ geometry_numbers (checked map.now) }
 {
     match map::check(map) {
-        Checked::Accepted(g) => {
+        Ok(g) => {
             *sector = g.sector as u32;
             *unit = g.unit as u32;
             *zones = g.zones as u32;
@@ -65,14 +51,14 @@ pub fn shoalswift_geometry(
             *zone = 0;
             0
         }
-        Checked::Refused(r) => {
+        Err(refusal) => {
             *sector = 0;
             *unit = 0;
             *zones = 0;
             *ids = 0;
             *size = 0;
-            *zone = r.zone;
-            r.number
+            *zone = refusal.zone;
+            refusal.number()
         }
     }
 }
@@ -87,16 +73,18 @@ pub fn shoalswift_list(
 ) -> u32
     ensures { ListTold (object_found map.now id) list.old (result, zone.new, pairs.new) list.new }
 {
-    let r = listing::list(map, id, list);
-    pairs_told(r, pairs, zone)
+    let (number, n) = told(listing::list(map, id, list), 0, zone);
+    *pairs = n as u64;
+    number
 }
 
 // Lists the free spans, ascending.
 pub fn shoalswift_free(map: &[u8], list: &mut [u32], pairs: &mut u64, zone: &mut u32) -> u32
     ensures { ListTold (free_found map.now) list.old (result, zone.new, pairs.new) list.new }
 {
-    let r = listing::free(map, list);
-    pairs_told(r, pairs, zone)
+    let (number, n) = told(listing::free(map, list), 0, zone);
+    *pairs = n as u64;
+    number
 }
 
 // Where a byte of a file lies, and how many bytes there are from it to its piece's end.
@@ -110,20 +98,11 @@ pub fn shoalswift_address(
 ) -> u32
     ensures { (result, zone.new, address.new, run.new) ≡ address_told (location_found map.now n position) }
 {
-    match address::address(map, n, position) {
-        Reached::At(l) => {
-            *address = l.address;
-            *run = l.run;
-            *zone = 0;
-            0
-        }
-        Reached::Refused(r) => {
-            *address = 0;
-            *run = 0;
-            *zone = r.zone;
-            r.number
-        }
-    }
+    let nowhere = Location { address: 0, run: 0 };
+    let (number, l) = told(address::address(map, n, position), nowhere, zone);
+    *address = l.address;
+    *run = l.run;
+    number
 }
 
 // Sweeps an ordinary object within a stretch of image.
@@ -139,8 +118,9 @@ pub fn shoalswift_sweep_object(
     ensures { SweepTold (object_sweep map.now id) first fill image.old
         (result, zone.new, count.new) image.new }
 {
-    let r = sweep::sweep_object(map, image, first, fill, id);
-    count_told(r, count, zone)
+    let (number, n) = told(sweep::sweep_object(map, image, first, fill, id), 0, zone);
+    *count = n;
+    number
 }
 
 // Sweeps free space within a stretch of image.
@@ -154,8 +134,9 @@ pub fn shoalswift_sweep_free(
 ) -> u32
     ensures { SweepTold (free_sweep map.now) first fill image.old (result, zone.new, count.new) image.new }
 {
-    let r = sweep::sweep_free(map, image, first, fill);
-    count_told(r, count, zone)
+    let (number, n) = told(sweep::sweep_free(map, image, first, fill), 0, zone);
+    *count = n;
+    number
 }
 
 // Releases an ordinary object and returns its pairs in object order.
@@ -168,24 +149,16 @@ pub fn shoalswift_release(
 ) -> u32
     ensures { ReleaseTold map.old id list.old (result, zone.new, pairs.new) map.new list.new }
 {
-    let r = release::release(map, id, list);
-    pairs_told(r, pairs, zone)
+    let (number, n) = told(release::release(map, id, list), 0, zone);
+    *pairs = n as u64;
+    number
 }
 
 // Places a list of pieces under an absent id.
 pub fn shoalswift_place(map: &mut [u8], id: u32, list: &[u32], zone: &mut u32) -> u32
     ensures { PlaceTold map.old id list.now (result, zone.new) map.new }
 {
-    match place::place(map, id, list) {
-        Placed::Done => {
-            *zone = 0;
-            0
-        }
-        Placed::Refused(r) => {
-            *zone = r.zone;
-            r.number
-        }
-    }
+    told(place::place(map, id, list), (), zone).0
 }
 
 // Claims room for so many bytes near a parent zone and returns the pairs in object order.
@@ -200,20 +173,11 @@ pub fn shoalswift_claim(
 ) -> u32
     ensures { ClaimTold map.old size parent list.old (result, zone.new, id.new, pairs.new) map.new list.new }
 {
-    match claim::claim(map, size, parent, list) {
-        Claimed::Pairs { id: i, pairs: n } => {
-            *id = i;
-            *pairs = n as u64;
-            *zone = 0;
-            0
-        }
-        Claimed::Refused(r) => {
-            *id = 0;
-            *pairs = 0;
-            *zone = r.zone;
-            r.number
-        }
-    }
+    let nothing = Given { id: 0, pairs: 0 };
+    let (number, given) = told(claim::claim(map, size, parent, list), nothing, zone);
+    *id = given.id;
+    *pairs = given.pairs as u64;
+    number
 }
 
 // Which of two copies is an accepted map, and whether they are equal. The part that `copies::choose` hands back is the copy told.
@@ -227,8 +191,10 @@ pub fn shoalswift_choose_copy<'a>(
     ensures { (result, zone.new, which.new, equal.new)
         ≡ choice_told (copy_found first.now second.now) (same_bytes first.now second.now) }
 {
-    let mut number = 0;
-    copies::choose(first, second, &mut number, zone, which, equal);
+    let chosen = copies::choose(first, second);
+    let (number, copy) = told(chosen.which.map(|copy| copy as u32), 0, zone);
+    *which = copy;
+    *equal = u32::from(chosen.equal);
     number
 }
 
@@ -236,16 +202,7 @@ pub fn shoalswift_choose_copy<'a>(
 pub fn shoalswift_copy_over(source: &[u8], target: &mut [u8], zone: &mut u32) -> u32
     ensures { CopyTold source.now target.old (result, zone.new) target.new }
 {
-    match copies::copy_over(source, target) {
-        Copied::Done => {
-            *zone = 0;
-            0
-        }
-        Copied::Refused(r) => {
-            *zone = r.zone;
-            r.number
-        }
-    }
+    told(copies::copy_over(source, target), (), zone).0
 }
 
 // The disc addresses of an accepted map's two copies.
@@ -257,36 +214,21 @@ pub fn shoalswift_copy_addresses(
 ) -> u32
     ensures { (result, zone.new, first.new, second.new) ≡ addresses_told (addresses_found map.now) }
 {
-    match copies::copy_addresses(map) {
-        Located::At(l) => {
-            *first = l.first;
-            *second = l.second;
-            *zone = 0;
-            0
-        }
-        Located::Refused(r) => {
-            *first = 0;
-            *second = 0;
-            *zone = r.zone;
-            r.number
-        }
-    }
+    let nowhere = Addresses {
+        first: 0,
+        second: 0,
+    };
+    let (number, l) = told(copies::copy_addresses(map), nowhere, zone);
+    *first = l.first;
+    *second = l.second;
+    number
 }
 
 // Mends a map.
 pub fn shoalswift_mend(map: &mut [u8], zone: &mut u32) -> u32
     ensures { MendTold map.old (result, zone.new) map.new }
 {
-    match mend::mend(map) {
-        Mended::Done => {
-            *zone = 0;
-            0
-        }
-        Mended::Refused(r) => {
-            *zone = r.zone;
-            r.number
-        }
-    }
+    told(mend::mend(map), (), zone).0
 }
 
 // The positions of the bytes that mending would change.
@@ -298,18 +240,9 @@ pub fn shoalswift_mend_positions(
 ) -> u32
     ensures { PositionsTold map.now list.old (result, zone.new, positions.new) list.new }
 {
-    match mend::mend_positions(map, list) {
-        Changes::Positions(n) => {
-            *positions = n as u64;
-            *zone = 0;
-            0
-        }
-        Changes::Refused(r) => {
-            *positions = 0;
-            *zone = r.zone;
-            r.number
-        }
-    }
+    let (number, n) = told(mend::mend_positions(map, list), 0, zone);
+    *positions = n as u64;
+    number
 }
 
 // Draws the map of a blank disc.
@@ -322,16 +255,7 @@ pub fn shoalswift_format(
 ) -> u32
     ensures { FormatTold log2secsize capacity idlen map.old (result, zone.new) map.new }
 {
-    match format::format(log2secsize, capacity, idlen, map) {
-        Formatted::Done => {
-            *zone = 0;
-            0
-        }
-        Formatted::Refused(r) => {
-            *zone = r.zone;
-            r.number
-        }
-    }
+    told(format::format(log2secsize, capacity, idlen, map), (), zone).0
 }
 
 // The length of the map that formatting wants.
@@ -344,52 +268,23 @@ pub fn shoalswift_format_length(
 ) -> u32
     ensures { (result, zone.new, length.new) ≡ length_told (length_found log2secsize capacity idlen) }
 {
-    match format::format_length(log2secsize, capacity, idlen) {
-        MapLength::Bytes(n) => {
-            *length = n as u64;
-            *zone = 0;
-            0
-        }
-        MapLength::Refused(r) => {
-            *length = 0;
-            *zone = r.zone;
-            r.number
-        }
-    }
+    let (number, n) = told(format::format_length(log2secsize, capacity, idlen), 0, zone);
+    *length = n as u64;
+    number
 }
 
-// The number of pairs written, or a refusal and its zone.
-fn pairs_told(r: Listed, written: &mut u64, zone: &mut u32) -> u32
-    ensures { (result, zone.new, written.new) ≡ list_numbers r }
+// What a call answers, as numbers: 0 and its value, with zone 0 told; or the refusal's number and `none`, with its zone told.
+fn told<T: Copy>(answer: Result<T, Refusal>, none: T, zone: &mut u32) -> (u32, T)
+    ensures { (result.0, zone.new, result.1) ≡ told none answer }
 {
-    match r {
-        Listed::Pairs(n) => {
-            *written = n as u64;
+    match answer {
+        Ok(value) => {
             *zone = 0;
-            0
+            (0, value)
         }
-        Listed::Refused(q) => {
-            *written = 0;
-            *zone = q.zone;
-            q.number
-        }
-    }
-}
-
-// The number of bytes of the class, or a refusal and its zone.
-fn count_told(r: Swept, count: &mut u64, zone: &mut u32) -> u32
-    ensures { (result, zone.new, count.new) ≡ sweep_numbers r }
-{
-    match r {
-        Swept::Count(n) => {
-            *count = n;
-            *zone = 0;
-            0
-        }
-        Swept::Refused(q) => {
-            *count = 0;
-            *zone = q.zone;
-            q.number
+        Err(refusal) => {
+            *zone = refusal.zone;
+            (refusal.number(), none)
         }
     }
 }

@@ -1,12 +1,8 @@
 -- The disc is small, and the test of a stretch's end without a sum is that of the definition.
 use mathlib.Core.Path.{◌≡◌}
-use mathlib.Core.Bool.{true}
-use Prim.Native.Nat.{ℕ, ◌+◌, ◌-◌, ◌/◌, ◌<◌, ◌≤◌}
+use Prim.Native.Nat.{ℕ, ◌+◌, ◌/◌, ◌≤◌}
 use native.Mathlib.Nat.{mul-le-mul, mul_comm, div-mul-le_self, div-le_of_le-mul, le-div_iff_mul-le}
 use native.Mathlib.Omega.{arith}
-use lib.Dec.{ltb}
-use borrow.Author.Tests.{lt-ltb, le-ltb, ltb-true, ltb-false}
-use Rattle.bits.proofs.Tests.{by_test}
 use Rattle.geometry.specs.declared.Geometry.{Geometry}
 use Rattle.geometry.specs.Accepted.{AcceptedGeometry}
 use Rattle.geometry.specs.Places.{zone_of, zone_from, disc_bits}
@@ -15,16 +11,6 @@ use Rattle.geometry.proofs.DiscBits.{disc_bits_small, map_bits_low}
 -- the disc's bytes
 pub size_small : (g : Geometry) → AcceptedGeometry g → g.size ≤ 2190433320960
 size_small g ok = omega (arith, ok.size_high, mul-le-mul (disc_bits_small g ok) ok.unit_high)
-
--- whether a stretch ends past the disc
-pub size_below : (size first n : ℕ) → size < n → true ≡ ltb size (first + n)
-size_below size first n h = rw (lt-ltb size (first + n) (omega arith))
-
-pub size_above : (size first n : ℕ) → n ≤ size → ltb (size - n) first ≡ ltb size (first + n)
-size_above size first n h =
-    by_test (ltb (size - n) first)
-    (λ t. let k : size < first + n = omega (arith, ltb-true (size - n) first t) in rw (t, lt-ltb size (first + n) k))
-    (λ t. let k : first + n ≤ size = omega (arith, ltb-false (size - n) first t) in rw (t, le-ltb size (first + n) k))
 
 -- the bit of an address lies on the map or just past it, and so does its zone, which starts at the bit or before it
 pub bit_on_map : (g : Geometry) → AcceptedGeometry g → (address : ℕ) → address ≤ g.size → address / g.unit ≤ disc_bits g

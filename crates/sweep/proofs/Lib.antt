@@ -2,8 +2,8 @@ pub mod ByTable
 pub mod Bounds
 pub mod SweptOn
 pub mod OnePair
-pub mod FillRuns
 pub mod ApartCounts
+pub mod Walks
 pub mod SweepAnswers
 pub mod SweptLaws
 pub mod SweptReached

@@ -1,19 +1,18 @@
 -- One pair's part of a stretch: its bytes lie from one place of the stretch to another, both clipped to its ends; so the fill is
 -- one run, and the count is that run's length.
-use mathlib.Core.Path.{◌≡◌, refl, sym, ap, ap₂, ◌∙◌}
-use mathlib.Core.Bool.{Bool, true, false}
-use mathlib.Core.List.{List, [], ◌∷◌, ◌++◌}
+use mathlib.Core.Path.{◌≡◌, sym, ap, ap₂, ◌∙◌}
+use mathlib.Core.Bool.{true, false}
+use mathlib.Core.List.{List, [], ◌∷◌}
 use Prim.Native.Nat.{ℕ, zero, suc, ◌+◌, ◌-◌, ◌*◌, ◌<◌, ◌≤◌, min}
 use native.Mathlib.Nat.{add-zero}
 use native.Mathlib.Omega.{arith}
 use lib.Dec.{ltb}
-use lib.ListN.{length, take, drop, replicate}
+use lib.ListN.{length, replicate, length-take, length-drop}
+use borrow.Rule.Slice.PartMut.{put_mid, mid_of}
 use borrow.Author.Tests.{le-leb, lt-leb, lt-ltb, le-ltb, ltb-true, ltb-false}
 use Rattle.bits.proofs.Tests.{by_test}
 use Rattle.model.specs.Chain.{Pair}
-use Rattle.walk.specs.HeldBy.{pair_if}
-use Rattle.sweep.specs.Sweep.{covers, swept_bytes, covered_count, PairsSwept}
-use Rattle.sweep.proofs.SweptOn.{swept_none}
+use Rattle.sweep.specs.Sweep.{covers, swept_bytes, covered_count, pair_counts}
 
 -- an address as a place in n addresses from a on
 abbrev clipped : ℕ → ℕ → ℕ → ℕ
@@ -27,13 +26,16 @@ clip_first x a n h = omega arith
 
 -- a run of fill from one place to another
 abbrev pub run : ℕ → List ℕ → ℕ → ℕ → List ℕ
-run fill image i j = take i image ++ (replicate (j - i) fill ++ drop j image)
+run fill image i j = put_mid i (j - i) image (replicate (j - i) fill)
 
 run_later : (fill b : ℕ) (bs : List ℕ) (i j : ℕ) → run fill (b ∷ bs) (suc i) (suc j) ≡ b ∷ run fill bs i j
-run_later fill b bs i j = let w : suc j - suc i ≡ j - i = omega arith in ap (λ (k : ℕ). b ∷ (take i bs ++ (replicate k fill ++ drop j bs))) w
+run_later fill b bs i j = let w : suc j - suc i ≡ j - i = omega arith in ap (λ (k : ℕ). b ∷ put_mid i k bs (replicate k fill)) w
 
 run_here : (fill b : ℕ) (bs : List ℕ) (j : ℕ) → run fill (b ∷ bs) 0 (suc j) ≡ fill ∷ run fill bs 0 j
-run_here fill b bs j = let w : suc j - 0 ≡ suc (j - 0) = omega arith in ap (λ (k : ℕ). replicate k fill ++ drop j bs) w
+run_here fill b bs j = let w : suc j - 0 ≡ suc (j - 0) = omega arith in ap (λ (k : ℕ). put_mid 0 k (b ∷ bs) (replicate k fill)) w
+
+mid_length : (i k : ℕ) (image : List ℕ) → i + k ≤ length image → length (mid_of i k image) ≡ k
+mid_length i k image h = simp (length-take, length-drop) (omega arith)
 
 -- the pair's bytes run from s to e
 module _ (unit : ℕ) (q : Pair) where
@@ -83,19 +85,13 @@ module _ (unit : ℕ) (q : Pair) where
       let y : clipped e (suc a) n ≡ 0 = clip_first e (suc a) n (omega arith) in
       rw (outside_after a h, clip_first s a (suc n) l, clip_first e a (suc n) h) (ap (λ (r : List ℕ). b ∷ r) (ih ∙ ap₂ (run fill bs) x y))))
 
--- one pair, if it is wanted
-module _ (unit start len : ℕ) where
-  pub wanted_swept : (b : Bool) (fill first i j : ℕ) (image : List ℕ) → b ≡ true
-      → i ≡ clipped (start * unit) first (length image) → j ≡ clipped ((start + len) * unit) first (length image)
-      → PairsSwept unit (pair_if b start len) first fill image (j - i) (run fill image i j)
-  wanted_swept b fill first i j image t ei ej =
-      let q : Pair = record { start = start; len = len } in
-      let n : ℕ = length image in
-      rw t record {
-        bytes = ap₂ (run fill image) ei ej ∙ sym (pair_swept unit q fill first image);
-        count = ap₂ (λ (x y : ℕ). y - x) ei ej ∙ sym (pair_count unit q first n) ∙ sym (add-zero (covered_count unit (q ∷ []) first n));
-      }
-
-  pub unwanted_swept : (b : Bool) (fill first : ℕ) (image : List ℕ) → b ≡ false
-      → PairsSwept unit (pair_if b start len) first fill image 0 image
-  unwanted_swept b fill first image t = rw t record { bytes = sym (swept_none unit fill first image); count = refl }
+-- what a run of fill writes, and how long it is
+pub run_swept : (unit fill first i j : ℕ) (q : Pair) (image filled : List ℕ) → i ≡ clipped (q.start * unit) first (length image)
+    → j ≡ clipped ((q.start + q.len) * unit) first (length image) → filled ≡ replicate (length (mid_of i (j - i) image)) fill
+    → (put_mid i (j - i) image filled ≡ swept_bytes unit (q ∷ []) fill first image) × (j - i ≡ pair_counts unit (q ∷ []) first (length image))
+run_swept unit fill first i j q image filled ei ej ef =
+    let n : ℕ = length image in
+    let e : filled ≡ replicate (j - i) fill = ef ∙ ap (λ (k : ℕ). replicate k fill) (mid_length i (j - i) image (omega arith)) in (
+      ap (put_mid i (j - i) image) e ∙ ap₂ (run fill image) ei ej ∙ sym (pair_swept unit q fill first image),
+      ap₂ (λ (x y : ℕ). y - x) ei ej ∙ sym (pair_count unit q first n) ∙ sym (add-zero (covered_count unit (q ∷ []) first n)),
+    )

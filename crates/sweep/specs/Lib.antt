@@ -1,3 +1,4 @@
 pub mod Sweep
+pub mod Stretch
 pub mod Refusals
 pub mod Laws

@@ -1,18 +1,17 @@
 -- A sweep of a stretch of disc image (document 01, "Sweep", refusals 8, 10, 16): the fill at each address of the class within
 -- the stretch, every other byte as it was, and how many addresses those are. Assumes nothing.
-use Rattle.std.specs.Prelude.{◌≡◌, Bool, false, cond, ◌&&◌, ◌||◌, List, [], ◌∷◌, map, ℕ, zero, suc, ◌+◌, ◌*◌, ltb, leb, length}
+use Rattle.std.specs.Prelude.{◌≡◌, Bool, false, cond, ◌&&◌, ◌||◌, List, [], ◌∷◌, map, ℕ, zero, suc, ◌+◌, ◌*◌, ltb, leb, length, Result, Ok, Err}
 use Rattle.geometry.specs.declared.Geometry.{Geometry}
 use Rattle.geometry.specs.Record.{geometry_of}
 use Rattle.geometry.specs.Places.{id_from}
-use Rattle.geometry.specs.Answers.{refusal}
+use Rattle.geometry.specs.declared.Refusal.{Refusal}
+use Rattle.geometry.specs.Answers.{number, refusal}
 use Rattle.model.specs.Answer.{Answer, refused, answered, unless, and_then}
 use Rattle.model.specs.Chain.{Pair, Entry}
 use Rattle.model.specs.Check.{map_read}
 use Rattle.model.specs.Pieces.{Piece, pieces_of_zones, pieces_of, free_spans}
 use Rattle.walk.specs.HeldBy.{held_from}
 use Rattle.listing.specs.Listed.{present}
-use Rattle.sweep.specs.declared.Swept.{Swept}
-use Rattle.sweep.specs.declared.Swept.TheVariants as swept
 
 -- an address lies in one of the pairs, at `unit` bytes a map bit
 abbrev pub in_pair : ℕ → Pair → ℕ → Bool
@@ -36,11 +35,6 @@ covered_count unit qs a (suc n) = cond (covers unit qs a) 1 0 + covered_count un
 abbrev pub pair_counts : ℕ → List Pair → ℕ → ℕ → ℕ
 pair_counts unit [] first n = 0
 pair_counts unit (q ∷ qs) first n = covered_count unit (q ∷ []) first n + pair_counts unit qs first n
-
--- pairs swept, one by one: every byte of the stretch, and what is answered
-pub record PairsSwept (unit : ℕ) (qs : List Pair) (first fill : ℕ) (old : List ℕ) (r : ℕ) (new : List ℕ) : Type 0 where
-  pub bytes : new ≡ swept_bytes unit qs fill first old
-  pub count : r ≡ pair_counts unit qs first (length old)
 
 -- the pairs of the class, and the bytes of a map bit
 pub record Class : Type 0 where
@@ -71,18 +65,18 @@ abbrev pub free_sweep : List ℕ → ℕ → ℕ → Answer Class
 free_sweep m first n = and_then (map_read m) (λ (ess : List (List Entry)). on_disc (geometry_of m) first n (free_spans (geometry_of m) 0 ess))
 
 -- the answer and the stretch afterwards
-abbrev pub sweep_answer : ℕ → ℕ → Answer Class → Swept
-sweep_answer first n (answered c) = swept.Count (covered_count c.unit c.pairs first n)
-sweep_answer first n (refused k z) = swept.Refused (refusal k z)
+abbrev pub sweep_answer : ℕ → ℕ → Answer Class → Result ℕ Refusal
+sweep_answer first n (answered c) = Ok (covered_count c.unit c.pairs first n)
+sweep_answer first n (refused k z) = Err (refusal k z)
 
 abbrev pub image_after : ℕ → ℕ → List ℕ → Answer Class → List ℕ
 image_after first fill image (answered c) = swept_bytes c.unit c.pairs fill first image
 image_after first fill image (refused k z) = image
 
 -- the paper's numbers: refusal (0: accepted), zone told, count
-abbrev pub sweep_numbers : Swept → ℕ × ℕ × ℕ
-sweep_numbers (swept.Count n) = (0, 0, n)
-sweep_numbers (swept.Refused r) = (r.number, r.zone, 0)
+abbrev pub sweep_numbers : Result ℕ Refusal → ℕ × ℕ × ℕ
+sweep_numbers (Ok n) = (0, 0, n)
+sweep_numbers (Err r) = (number r.reason, r.zone, 0)
 
 -- as the table gives them for the class that is found
 abbrev pub sweep_told : ℕ → ℕ → Answer Class → ℕ × ℕ × ℕ
@@ -90,7 +84,7 @@ sweep_told first n (refused k z) = (k, z, 0)
 sweep_told first n (answered c) = (0, 0, covered_count c.unit c.pairs first n)
 
 -- the answer with its numbers, and every byte of the stretch
-pub record Sweeps (found : Answer Class) (first fill : ℕ) (old : List ℕ) (r : Swept) (new : List ℕ) : Type 0 where
+pub record Sweeps (found : Answer Class) (first fill : ℕ) (old : List ℕ) (r : Result ℕ Refusal) (new : List ℕ) : Type 0 where
   pub answer : r ≡ sweep_answer first (length old) found
   pub numbers : sweep_numbers r ≡ sweep_told first (length old) found
   pub image : new ≡ image_after first fill old found

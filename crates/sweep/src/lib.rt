@@ -1,160 +1,114 @@
 // Sweeps a stretch of disc image: the fill over every byte of an object, or of free space (document 01, "The calls").
 #![tactic(auto)]
 
-ghost use Rattle.std.specs.Prelude.{◌≡◌, ◌++◌, ◌+◌, ◌-◌, ◌/◌, ◌≤◌, min, ltb, length, take, drop, replicate};
+ghost use Rattle.std.specs.Prelude.{◌≡◌, [], ◌∷◌, ◌+◌, ◌-◌, ◌/◌, ◌≤◌, min, leb, length};
 ghost use Rattle.geometry.specs.Accepted.{AcceptedGeometry};
 ghost use Rattle.geometry.specs.Places.{disc_bits};
 ghost use Rattle.map.specs.Accepted.{AcceptedMap};
-ghost use Rattle.walk.specs.HeldBy.{pair_if, held_from};
-ghost use Rattle.sweep.specs.Sweep.{PairsSwept, held_sweep, object_sweep, free_sweep, Sweeps};
+ghost use Rattle.walk.specs.HeldBy.{held_from};
+ghost use Rattle.chain.specs.SpansLeft.{span_pair};
+ghost use Rattle.sweep.specs.Sweep.{held_sweep, object_sweep, free_sweep, Sweeps};
+ghost use Rattle.sweep.specs.Stretch.{StretchSweeps, StretchSwept};
 ghost use Rattle.sweep.specs.Laws.{SweepLaws};
 
-use geometry::{DiscBit, Geometry, Refusal, refuse};
-use map::Checked;
+use chain::Span;
+use geometry::{DiscBit, Geometry, Reason, Refusal};
 
-// How many addresses of the stretch were of the class, or a refusal.
-#[derive(Clone, Copy)]
-pub enum Swept {
-    Count(u64),
-    Refused(Refusal),
+// A stretch of disc image that is swept: its bytes, the disc address of the first one, and the fill.
+#[derive(Drop)]
+struct Stretch<'a> {
+    image: &'a mut [u8],
+    first: usize,
+    fill: u8,
 }
 
 // Sweeps an ordinary object within a stretch of image that starts at disc address `first`. Refused: 1 to 7 as `map::check`, 8,
 // 10, 16.
-pub fn sweep_object(map: &[u8], image: &mut [u8], first: u64, fill: u8, id: u32) -> Swept
-    ensures { Sweeps (object_sweep map.now id first (length image.old)) first fill image.old result image.new }
-{
-    match map::check(map) {
-        Checked::Refused(r) => Swept::Refused(r),
-        Checked::Accepted(g) => sweep_id(map, g, image, first, fill, id),
-    }
-}
-
-// Sweeps free space within a stretch of image that starts at disc address `first`. Refused: 1 to 7 as `map::check`, 16.
-pub fn sweep_free(map: &[u8], image: &mut [u8], first: u64, fill: u8) -> Swept
-    ensures { Sweeps (free_sweep map.now first (length image.old)) first fill image.old result image.new }
-{
-    match map::check(map) {
-        Checked::Refused(r) => Swept::Refused(r),
-        Checked::Accepted(g) => sweep_class(map, g, 0, image, first, fill),
-    }
-}
-
-// An object's sweep on an accepted map: 8, 10, and then as a holder's.
-fn sweep_id(map: &[u8], g: Geometry, image: &mut [u8], first: u64, fill: u8, id: u32) -> Swept
-    requires { AcceptedMap map.now g }
-    ensures { Sweeps (object_sweep map.now id first (length image.old)) first fill image.old result image.new }
-{
-    if !g.is_id(3, id as usize) {
-        return Swept::Refused(refuse(8));
-    }
-    if listing::count_held(map, g, id) == 0 {
-        return Swept::Refused(refuse(10));
-    }
-    sweep_class(map, g, id, image, first, fill)
-}
-
-// A holder's sweep on an accepted map: 16.
-fn sweep_class(
+pub fn sweep_object(
     map: &[u8],
-    g: Geometry,
-    holder: u32,
     image: &mut [u8],
     first: u64,
     fill: u8,
-) -> Swept
-    requires { AcceptedMap map.now g }
-    ensures { Sweeps (held_sweep g holder map.now first (length image.old))
-        first fill image.old result image.new }
+    id: u32,
+) -> Result<u64, Refusal>
+    ensures { Sweeps (object_sweep map.now id first (length image.old)) first fill image.old result image.new }
 {
-    if ends_past(g, first, image.len()) {
-        return Swept::Refused(refuse(16));
-    }
-    Swept::Count(sweep_held(map, g, holder, image, first as usize, fill) as u64)
+    let g = map::check(map)?;
+    let first = first as usize;
+    sweep_id(map, g, id, &mut Stretch { image, first, fill })
 }
 
-// Whether a stretch of n bytes from `first` on ends past the disc; the sum is not made, since it could wrap.
-fn ends_past(g: Geometry, first: u64, n: usize) -> bool
-    ensures { result ≡ ltb g.size (first + n) }
+// Sweeps free space within a stretch of image that starts at disc address `first`. Refused: 1 to 7 as `map::check`, 16.
+pub fn sweep_free(map: &[u8], image: &mut [u8], first: u64, fill: u8) -> Result<u64, Refusal>
+    ensures { Sweeps (free_sweep map.now first (length image.old)) first fill image.old result image.new }
 {
-    if g.size < n {
-        return true;
+    let g = map::check(map)?;
+    let first = first as usize;
+    sweep_class(map, g, 0, &mut Stretch { image, first, fill })
+}
+
+// An object's sweep on an accepted map: 8, 10, and then as a holder's.
+fn sweep_id(map: &[u8], g: Geometry, id: u32, stretch: &mut Stretch) -> Result<u64, Refusal>
+    requires { AcceptedMap map.now g }
+    ensures { StretchSweeps (object_sweep map.now id) stretch.old result stretch.new }
+{
+    if !g.is_id(3, id as usize) {
+        return Err(Reason::Id.into());
     }
-    g.size - n < first as usize
+    if listing::count_held(map, g, id) == 0 {
+        return Err(Reason::IdAbsent.into());
+    }
+    sweep_class(map, g, id, stretch)
+}
+
+// A holder's sweep on an accepted map: 16.
+fn sweep_class(map: &[u8], g: Geometry, holder: u32, stretch: &mut Stretch) -> Result<u64, Refusal>
+    requires { AcceptedMap map.now g }
+    ensures { StretchSweeps (held_sweep g holder map.now) stretch.old result stretch.new }
+{
+    if !stretch.lies_on(g.size) {
+        return Err(Reason::PastEnd.into());
+    }
+    let count = if holder == 0 {
+        sweep_chains(map, g, stretch)
+    } else {
+        sweep_all(map, g, holder, stretch)
+    };
+    Ok(count as u64)
 }
 
 // Sweeps a holder's fragments of all zones; answers how many bytes were written. Only free fragments are chained, so an object's are looked
 // for among all.
-fn sweep_held(
-    map: &[u8],
-    g: Geometry,
-    holder: u32,
-    image: &mut [u8],
-    first: usize,
-    fill: u8,
-) -> usize
-    requires { AcceptedMap map.now g × (first + length image.old ≤ g.size) }
-    ensures { PairsSwept g.unit (held_from g holder map.now 0 g.zones) first fill image.old result image.new }
+fn sweep_all(map: &[u8], g: Geometry, holder: u32, stretch: &mut Stretch) -> usize
+    requires { AcceptedMap map.now g × (stretch.old.first + length stretch.old.image.now ≤ g.size) }
+    ensures { StretchSwept g.unit (held_from g holder map.now 0 g.zones) stretch.old result stretch.new }
 {
-    if holder == 0 {
-        return sweep_chains(map, g, image, first, fill);
-    }
-    sweep_all(map, g, holder, image, first, fill)
-}
-
-// The same by a walk over all fragments.
-fn sweep_all(
-    map: &[u8],
-    g: Geometry,
-    holder: u32,
-    image: &mut [u8],
-    first: usize,
-    fill: u8,
-) -> usize
-    requires { AcceptedMap map.now g × (first + length image.old ≤ g.size) }
-    ensures { PairsSwept g.unit (held_from g holder map.now 0 g.zones) first fill image.old result image.new }
-{
-    let zones = g.zones;
-    let unit = g.unit;
     let mut count = 0;
-    let mut w = walk::from_zone(map, g, 0);
-    while w.zone < zones {
-        let s = walk::next(map, g, w);
-        let line = s.line;
-        count += sweep_line(
-            line.holder == holder,
-            line.start,
-            line.len,
-            unit,
-            image,
-            first,
-            fill,
-        );
-        w = s.after;
+    for line in walk::lines(map, g, 0, g.zones) {
+        if line.holder == holder {
+            let span = Span {
+                start: line.start,
+                len: line.len,
+            };
+            count += stretch.sweep(span, g.unit);
+        }
     }
     count
 }
 
 // The same of free space, along the chains. Spans ascend: those before the stretch are passed over, and the first one past it ends the sweep.
-fn sweep_chains(map: &[u8], g: Geometry, image: &mut [u8], first: usize, fill: u8) -> usize
-    requires { AcceptedMap map.now g × (first + length image.old ≤ g.size) }
-    ensures { PairsSwept g.unit (held_from g 0 map.now 0 g.zones) first fill image.old result image.new }
+fn sweep_chains(map: &[u8], g: Geometry, stretch: &mut Stretch) -> usize
+    requires { AcceptedMap map.now g × (stretch.old.first + length stretch.old.image.now ≤ g.size) }
+    ensures { StretchSwept g.unit (held_from g 0 map.now 0 g.zones) stretch.old result stretch.new }
 {
-    let zones = g.zones;
-    let unit = g.unit;
-    let end = first + image.len();
+    let first = stretch.first;
+    let end = first + stretch.image.len();
     let mut count = 0;
-    let bit = bit_at(g, first);
-    let from = chain::from_zone(map, g, g.zone_of(bit));
-    let mut w = chain::pass_to(map, g, from, bit);
-    while w.zone < zones {
-        let s = chain::next(map, g, w);
-        let start = s.start;
-        if end <= start.0 as usize * unit {
-            return count;
+    for span in chain::spans_from(map, g, bit_at(g, first)) {
+        if end <= span.start.0 as usize * g.unit {
+            break;
         }
-        count += sweep_line(true, start, s.len, unit, image, first, fill);
-        w = s.after;
+        count += stretch.sweep(span, g.unit);
     }
     count
 }
@@ -167,50 +121,33 @@ fn bit_at(g: Geometry, address: usize) -> DiscBit
     DiscBit((address / g.unit) as u32)
 }
 
-// Fills a pair's part of the stretch at once, if the pair is wanted; answers how many bytes that is.
-fn sweep_line(
-    wanted: bool,
-    start: DiscBit,
-    len: u32,
-    unit: usize,
-    image: &mut [u8],
-    first: usize,
-    fill: u8,
-) -> usize
-    requires { unit ≤ 4096 }
-    ensures { PairsSwept unit (pair_if wanted start.0 len) first fill image.old result image.new }
-{
-    if wanted {
-        let n = image.len();
-        let bit = start.0 as usize;
-        let from = clip(bit * unit, first, n);
-        let to = clip((bit + len as usize) * unit, first, n);
-        fill_bytes(image, from, to, fill);
-        return to - from;
+impl Stretch<'_> {
+    // Whether the stretch lies on a disc of so many bytes, an empty one too.
+    fn lies_on(&self, size: usize) -> bool
+        ensures { result ≡ leb (self.now.first + length self.now.image.now) size }
+    {
+        self.first
+            .checked_add(self.image.len())
+            .is_some_and(|end| end <= size)
     }
-    0
-}
 
-// An address as a place in a stretch of n bytes from `first` on, or the nearer end of the stretch.
-fn clip(a: usize, first: usize, n: usize) -> usize
-    ensures { (result ≡ min (a - first) n) × (result ≤ n) }
-{
-    let i = bits::minus(a, first);
-    if i < n {
-        return i;
+    // Fills a span's part of the stretch at once; answers how many bytes that is.
+    fn sweep(&mut self, span: Span, unit: usize) -> usize
+        requires { unit ≤ 4096 }
+        ensures { StretchSwept unit (span_pair span ∷ []) self.old result self.new }
+    {
+        let bit = span.start.0 as usize;
+        let from = self.place(bit * unit);
+        let to = self.place((bit + span.len as usize) * unit);
+        self.image[from..to].fill(self.fill);
+        to - from
     }
-    n
-}
 
-// Fills the bytes from `from` to `to`.
-fn fill_bytes(image: &mut [u8], from: usize, to: usize, fill: u8)
-    requires { (from ≤ to) × (to ≤ length image.old) }
-    ensures { image.new ≡ take from image.old ++ (replicate (to - from) fill ++ drop to image.old) }
-{
-    let mut i = from;
-    while i < to {
-        image[i] = fill;
-        i += 1;
+    // An address as a place in the stretch, or the nearer end of the stretch.
+    fn place(&self, address: usize) -> usize
+        ensures { (result ≡ min (address - self.now.first) (length self.now.image.now)) × (result ≤ length self.now.image.now) }
+    {
+        address.saturating_sub(self.first).min(self.image.len())
     }
 }
 

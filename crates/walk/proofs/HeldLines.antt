@@ -1,12 +1,15 @@
--- What a holder has of the lines that remain for a walk, one line at a time: the line's pair, if it is the holder's, and then what it
--- has of the others. From the first fragment of a zone on that is what it has in the zones.
+-- What a holder has of lines, one line at a time: the line's pair, if it is the holder's, and then what it has of the others. Of the lines of
+-- some zones that is what it has in the zones. Each lemma takes the list as the iterator's contract tells it: `xs` is what was left, and
+-- `ys` what is left after line `l`.
 use mathlib.Core.Path.{◌≡◌, refl, ap, ap₂, ◌∙◌}
 use mathlib.Core.Bool.{Bool, true, false, cond}
-use mathlib.Core.List.{List, [], ◌∷◌, ◌++◌, map}
+use mathlib.Core.List.{List, [], ◌∷◌, ◌++◌, map, append-nil}
 use Prim.Native.Nat.{ℕ, zero, suc, ◌+◌, ◌-◌, ◌<◌, ◌≤◌}
+use native.Mathlib.Nat.{sub-zero}
 use native.Mathlib.Omega.{arith}
+use Rattle.std.specs.List.{filter}
 use lib.Dec.{eqb}
-use lib.ListN.{length, length-append, length-map}
+use lib.ListN.{length, length-map}
 use Rattle.bits.proofs.Tests.{by_test}
 use Rattle.geometry.specs.declared.Geometry.{Geometry}
 use Rattle.model.specs.Chain.{Pair, Entry}
@@ -18,7 +21,7 @@ use Rattle.walk.specs.declared.Line.{Line}
 use Rattle.walk.specs.declared.Step.{Step}
 use Rattle.walk.specs.Remaining.{line_of, lines_in, lines_from, remaining, Starts, Advances}
 use Rattle.walk.proofs.Remains.{none_remain}
-use Rattle.walk.specs.HeldBy.{pair_if, line_pair, held_lines, held_by, in_disc_bits, held_from}
+use Rattle.walk.specs.HeldBy.{pair_if, line_pair, held_lines, held_by, in_disc_bits, held_in, held_from, held_between}
 
 pub pair_count : (b : Bool) (d n : ℕ) → length (pair_if b d n) ≡ cond b 1 0
 pair_count true d n = refl
@@ -39,7 +42,7 @@ zone_lines g z h (e ∷ es) =
     (λ t. rw t (ap (λ (r : List Pair). to_disc g z e.at ∷ r) (zone_lines g z h es)))
     (λ t. rw t (zone_lines g z h es))
 
-held_lines_law : (g : Geometry) (h : ℕ) (m : List ℕ) (z n : ℕ) → held_lines h (lines_from g m z n) ≡ held_from g h m z n
+pub held_lines_law : (g : Geometry) (h : ℕ) (m : List ℕ) (z n : ℕ) → held_lines h (lines_from g m z n) ≡ held_from g h m z n
 held_lines_law g h m z zero = refl
 held_lines_law g h m z (suc n) =
     lines_append h (lines_in g m z) (lines_from g m (suc z) n)
@@ -47,6 +50,39 @@ held_lines_law g h m z (suc n) =
 
 pub length_held : (g : Geometry) (z : ℕ) (qs : List Pair) → length (in_disc_bits g z qs) ≡ length qs
 length_held g z qs = length-map qs (to_disc g z)
+
+module _ (h : ℕ) where
+  -- at the start
+  pub held_some : {xs : List Line} (g : Geometry) (m : List ℕ) (from to : ℕ) → xs ≡ lines_from g m from (to - from) → held_lines h xs ≡ held_between g h m from to
+  held_some g m from to e = ap (held_lines h) e ∙ held_lines_law g h m from (to - from)
+
+  pub held_whole : {xs : List Line} (g : Geometry) (m : List ℕ) (to : ℕ) → xs ≡ lines_from g m 0 (to - 0) → held_lines h xs ≡ held_from g h m 0 to
+  held_whole g m to e = held_some g m 0 to e ∙ ap (held_from g h m 0) (sub-zero to)
+
+  pub held_zone : {xs : List Line} (g : Geometry) (m : List ℕ) (z : ℕ) → xs ≡ lines_from g m z (z + 1 - z) → held_lines h xs ≡ held_in g h m z
+  held_zone g m z e =
+      let n : z + 1 - z ≡ 1 = omega arith in
+      held_some g m z (z + 1) e ∙ ap (held_from g h m z) n ∙ append-nil (held_in g h m z)
+
+  -- at a line
+  module _ {xs ys : List Line} {l : Line} (e : xs ≡ l ∷ ys) where
+    pub held_line : held_lines h xs ≡ line_pair h l ++ held_lines h ys
+    held_line = ap (held_lines h) e ∙ by_test (eqb l.holder h) (λ t. rw t) (λ t. rw t)
+
+    pub held_count : length (held_lines h xs) ≡ cond (eqb l.holder h) 1 0 + length (held_lines h ys)
+    held_count = ap length held_line ∙ by_test (eqb l.holder h) (λ t. rw t (omega arith)) (λ t. rw t (omega arith))
+
+  -- counted by a filter
+  pub length_wanted : (ls : List Line) → length (filter (λ l. eqb l.holder h) ls) ≡ length (held_lines h ls)
+  length_wanted [] = refl
+  length_wanted (l ∷ ls) =
+      by_test (eqb l.holder h)
+      (λ t. rw t (ap suc (length_wanted ls)))
+      (λ t. rw t (length_wanted ls))
+
+  pub counted_whole : {xs : List Line} (g : Geometry) (m : List ℕ) (to : ℕ) → xs ≡ lines_from g m 0 (to - 0)
+      → length (filter (λ l. eqb l.holder h) xs) ≡ length (held_from g h m 0 to)
+  counted_whole {xs} g m to e = length_wanted xs ∙ ap length (held_whole g m to e)
 
 -- what remains for a walk
 pub held_none : (h : ℕ) (m : List ℕ) (g : Geometry) (to : ℕ) (w : Walk) → to ≤ w.zone → held_lines h (remaining m g to w) ≡ []
@@ -68,7 +104,3 @@ module _ (h : ℕ) {m : List ℕ} {g : Geometry} where
 
     pub held_step : held_lines h (remaining m g to w) ≡ this ++ others
     held_step = ap (held_lines h) (a.passed to u k) ∙ by_test wanted (λ t. rw t) (λ t. rw t)
-
-    -- counted, one line more
-    pub line_counted : (n c : ℕ) {all : ℕ} → n + length (held_lines h (remaining m g to w)) ≡ all → c ≡ cond wanted 1 0 → n + c + length others ≡ all
-    line_counted n c e ec = omega (arith, ap length held_step ∙ length-append this others, pair_count wanted r.line.start.0 r.line.len)

@@ -1,4 +1,5 @@
 pub mod ZonesRead
+pub mod LinesOf
 pub mod Remains
 pub mod HeldLines
 pub mod HeldZones

@@ -94,11 +94,8 @@ module _ {m : List ℕ} {g : Geometry} (z : ℕ) (a : ReadableFrom m g z) where
             (λ t. let k = ltb-false z to t in none_remain m g to (walk z at chain) k ∙ sym (from_none m g to z k));
       }
 
--- a place after a fragment: at a fragment, or at the zone's end
+-- a place after a zone's last fragment
 module _ {m : List ℕ} {g : Geometry} {w : Walk} (p : Passing m g w) where
-  pub settles_here : ReadableFrom m g w.zone → w.at.0 < end_bit g → Settles m g w w
-  settles_here a h = record { stands = record { ahead = a; passing = λ k. p; inside = λ k. h }; same = λ to u k. refl }
-
   pub settles_next : end_bit g ≤ w.at.0 → (z : ℕ) → z ≡ w.zone + 1 → (r : Walk) → Starts m g z r → Settles m g w r
   settles_next h z ez r s =
       let ea : w.at.0 ≡ end_bit g = omega (arith, p.high) in

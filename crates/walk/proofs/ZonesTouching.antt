@@ -4,9 +4,9 @@ use mathlib.Core.Path.{◌≡◌, refl, sym, ap, ◌∙◌}
 use mathlib.Core.Bool.{Bool, true, false, cond, ◌&&◌}
 use mathlib.Core.List.{List, [], ◌∷◌, ◌++◌, map}
 use mathlib.Core.Option.{Option, none, some}
-use Prim.Native.Nat.{ℕ, zero, suc, ◌+◌, ◌<◌, ◌≤◌}
+use mathlib.Core.Logic.{◌⊎◌, inl, inr}
+use Prim.Native.Nat.{ℕ, zero, suc, ◌+◌, ◌<◌}
 use native.Mathlib.Omega.{arith}
-use native.Mathlib.Nat.{sub-zero}
 use lib.Dec.{eqb}
 use borrow.Author.Tests.{eq-eqb, ne_eqb}
 use Rattle.bits.proofs.Tests.{by_test, both, and_with_false}
@@ -17,23 +17,20 @@ use Rattle.model.specs.Check.{every, holder_fits, id_fits}
 use Rattle.zone.specs.Lines.{entries_in, holder_number}
 use Rattle.zone.proofs.EntriesRead.{is_read}
 use Rattle.map.specs.Accepted.{AcceptedMap}
-use Rattle.walk.specs.declared.Walk.{Walk}
 use Rattle.walk.specs.declared.Line.{Line}
-use Rattle.walk.specs.declared.Step.{Step}
-use Rattle.walk.specs.Remaining.{line_of, lines_from, remaining, Starts, Advances}
+use Rattle.walk.specs.Remaining.{line_of, lines_from}
 use Rattle.map.proofs.Accepts.{ReadInTurn, zones_in_turn}
-use Rattle.walk.proofs.Remains.{none_remain}
 use Rattle.walk.proofs.OwnersSome.{ids_fit, owner_some}
 use Rattle.model.specs.Shown.{zones_in, zones_of}
 use Rattle.walk.specs.Touching.{touching_of, touching_lines}
-use Rattle.walk.specs.declared.Touching.TheVariants as told
+use Rattle.std.proofs.Common.{Some, None}
 
 -- from the answer to what it tells
-pub none_told : (o : Option ℕ) → touching_of o ≡ told.None → o ≡ none
+pub none_told : (o : Option ℕ) → touching_of o ≡ None → o ≡ none
 none_told none e = refl
 none_told (some z) e = let x : ◌≡◌ {A = ℕ} 0 1 = cc in absurd (omega arith)
 
-pub zone_told : (o : Option ℕ) (z : ℕ) → touching_of o ≡ told.Zone z → o ≡ some z
+pub zone_told : (o : Option ℕ) (z : ℕ) → touching_of o ≡ Some z → o ≡ some z
 zone_told none z e = let x : ◌≡◌ {A = ℕ} 0 1 = cc in absurd (omega arith)
 zone_told (some y) z e = let k : y ≡ z = cc in ap some k
 
@@ -92,24 +89,15 @@ module _ (m : List ℕ) (g : Geometry) where
       ∙ ap (λ (x : Option ℕ). cond (none_touch false es) x (some z))
       (new_zone z (suc z) (last_free false es) ls (after_on g m z (suc z) n (omega arith)) ∙ zones_touching (suc z) n ess (omega arith) r.2)
 
--- what remains for a walk
-module _ {m : List ℕ} {g : Geometry} (a : AcceptedMap m g) where
-  pub touching_starts : {w : Walk} → Starts m g 0 w → touching_lines 0 false (remaining m g g.zones w) ≡ touching 0 (zones_of m)
-  touching_starts s =
-      ap (touching_lines 0 false) (s.all g.zones (omega arith) ∙ ap (lines_from g m 0) (sub-zero g.zones))
-      ∙ zones_touching m g 0 g.zones a.zones (omega arith) (zones_in_turn a) ∙ ap (touching 0) (sym (zones_are a))
+-- of the lines of an accepted map, and of a line and those after it
+pub touching_all : {m : List ℕ} {g : Geometry} → AcceptedMap m g → touching_lines 0 false (lines_from g m 0 g.zones) ≡ touching 0 (zones_of m)
+touching_all {m} {g} a =
+    zones_touching m g 0 g.zones a.zones (omega arith) (zones_in_turn a) ∙ ap (touching 0) (sym (zones_are a))
 
-pub touching_ends : (m : List ℕ) (g : Geometry) (w : Walk) (z : ℕ) (was_free : Bool) → g.zones ≤ w.zone → touching_lines z was_free (remaining m g g.zones w) ≡ none
-touching_ends m g w z was_free h = ap (touching_lines z was_free) (none_remain m g g.zones w h)
-
-module _ {m : List ℕ} {g : Geometry} {w : Walk} {r : Step} (a : Advances m g w r) (k : w.zone < g.zones) (z : ℕ) (was_free : Bool) where
-  this_line : touching_lines z was_free (remaining m g g.zones w)
-      ≡ cond ((was_free && eqb r.line.holder 0) && eqb r.line.zone z) (some r.line.zone) (touching_lines r.line.zone (eqb r.line.holder 0) (remaining m g g.zones r.after))
-  this_line = ap (touching_lines z was_free) (a.passed g.zones (omega arith) k)
-
-  pub touching_stops : (was_free && eqb r.line.holder 0) && eqb r.line.zone z ≡ true → touching_lines z was_free (remaining m g g.zones w) ≡ some r.line.zone
-  touching_stops t = rw t at this_line
-
-  pub touching_turn : (was_free && eqb r.line.holder 0) && eqb r.line.zone z ≡ false
-      → touching_lines z was_free (remaining m g g.zones w) ≡ touching_lines r.line.zone (eqb r.line.holder 0) (remaining m g g.zones r.after)
-  touching_turn t = rw t at this_line
+-- a line that does not touch the one before it
+pub touching_passed : (z : ℕ) (was_free : Bool) (l : Line) (ls : List Line)
+    → ((was_free ≡ true × l.holder ≡ 0 × (l.zone ≡ z → ⊥)) ⊎ ((was_free ≡ true × (l.holder ≡ 0 → ⊥)) ⊎ was_free ≡ false))
+    → touching_lines z was_free (l ∷ ls) ≡ touching_lines l.zone (eqb l.holder 0) ls
+touching_passed z was_free l ls (inl h) = rw (ne_eqb l.zone z h.2, and_with_false (was_free && eqb l.holder 0))
+touching_passed z was_free l ls (inr (inl h)) = rw (h.0, ne_eqb l.holder 0 h.1)
+touching_passed z was_free l ls (inr (inr h)) = rw h

@@ -1,17 +1,21 @@
-// The one walk over the fragments of a map whose zones can be read, by value: a place among the fragments, and a step from one to the next. A zone's
-// end leads on to the next zone, so a caller's loop over a map is one loop over fragments.
+// The fragments of a map whose zones can be read, as lines, one at a time and zone by zone: `lines` is the iterator that callers go over. Below it
+// is the one walk over a map, by value: a place among the fragments, and a step from one to the next; a zone's end leads on to the next zone.
 #![tactic(auto)]
 
-ghost use Rattle.std.specs.Prelude.{◌≡◌, cond, ◌<◌};
+ghost use Rattle.std.specs.Prelude.{◌≡◌, cond, ◌-◌, ◌*◌, ◌<◌, ◌≤◌, length};
 ghost use Rattle.model.specs.Chain.{touching};
+ghost use Rattle.model.specs.Rules.{zone_block};
 ghost use Rattle.model.specs.Shown.{zones_of};
 ghost use Rattle.map.specs.Accepted.{ReadableFrom, AcceptedMap};
 ghost use Rattle.walk.specs.Touching.{touching_of};
-ghost use Rattle.walk.specs.Remaining.{Stands, Passing, Starts, Advances, Settles};
+ghost use Rattle.walk.specs.LinesLeft.{lines_left};
+ghost use Rattle.walk.specs.Remaining.{lines_from, Stands, Passing, Starts, Advances, Settles};
 
-use bits::both;
 use fragment::next_after;
 use geometry::{BlockBit, DiscBit, Geometry};
+pub use iter::Lines;
+
+mod iter;
 
 // Where a walk stands: at the fragment that starts at `at` in a zone, where the free chain leads next to `chain`, or past the last zone.
 #[derive(Clone, Copy)]
@@ -49,11 +53,20 @@ pub fn from_zone(map: &[u8], g: Geometry, z: usize) -> Walk
             chain: BlockBit(0),
         };
     }
-    let a = z * g.sector;
-    let e = a + g.sector;
-    let at = g.zone_first(z);
-    let chain = zone::first_free(&map[a..e]);
-    Walk { zone: z, at, chain }
+    Walk {
+        zone: z,
+        at: g.zone_first(z),
+        chain: zone::first_free(block(map, g, z)),
+    }
+}
+
+// The block of zone z.
+pub fn block(map: &[u8], g: Geometry, z: usize) -> &[u8]
+    requires { (length map.now ≡ g.zones * g.sector) × (z < g.zones) }
+    ensures { result.now ≡ zone_block g map.now z }
+{
+    let start = z * g.sector;
+    &map[start..start + g.sector]
 }
 
 // The fragment at which a walk stands, and the place after it.
@@ -61,26 +74,23 @@ pub fn next(map: &[u8], g: Geometry, w: Walk) -> Step
     requires { (w.zone < g.zones) × Stands map.now g w }
     ensures { Advances map.now g w result }
 {
-    let z = w.zone;
-    let at = w.at;
-    let chain = w.chain;
-    let end = g.zone_end();
-    let a = z * g.sector;
-    let e = a + g.sector;
-    let f = fragment::whole_fragment(&map[a..e], at, end, g.idlen);
+    let Walk { zone, at, chain } = w;
+    let f = fragment::whole_fragment(block(map, g, zone), at, g.zone_end(), g.idlen);
     let line = Line {
-        zone: z,
+        zone,
         holder: holder(at.0 == chain.0, f.id),
-        start: g.disc_bit(z, at),
+        start: g.disc_bit(zone, at),
         len: f.len as u32,
     };
     let past = Walk {
-        zone: z,
+        zone,
         at: BlockBit(at.0 + f.len),
         chain: next_after(at, chain, f.id as usize),
     };
-    let after = settled(map, g, past);
-    Step { line, after }
+    Step {
+        line,
+        after: settled(map, g, past),
+    }
 }
 
 // A place after a fragment as one at a fragment: at the zone's end the walk goes on to the next zone.
@@ -89,9 +99,10 @@ fn settled(map: &[u8], g: Geometry, w: Walk) -> Walk
     ensures { Settles map.now g w result }
 {
     if w.at.0 < g.zone_end().0 {
-        return w;
+        w
+    } else {
+        from_zone(map, g, w.zone + 1)
     }
-    from_zone(map, g, w.zone + 1)
 }
 
 // The owner's number, 0 for a free fragment.
@@ -101,31 +112,33 @@ fn holder(free: bool, id: u32) -> u32
     if free { 0 } else { id }
 }
 
-// The lowest zone in which two free fragments touch (refusal 9).
-#[derive(Clone, Copy)]
-pub enum Touching {
-    None,
-    Zone(u32),
+// The lines of the zones `from` to `to`, ascending.
+pub fn lines<'a>(map: &'a [u8], g: Geometry, from: usize, to: usize) -> Lines<'a>
+    requires { ReadableFrom map.now g from × (to ≤ g.zones) }
+    ensures { lines_left result ≡ lines_from g map.now from (to - from) }
+{
+    Lines {
+        map,
+        geometry: g,
+        to,
+        at: from_zone(map, g, from),
+    }
 }
 
-pub fn first_touching(map: &[u8], g: Geometry) -> Touching
+// The lowest zone in which two free fragments touch (refusal 9).
+pub fn first_touching(map: &[u8], g: Geometry) -> Option<u32>
     requires { AcceptedMap map.now g }
     ensures { result ≡ touching_of (touching 0 (zones_of map.now)) }
 {
-    let zones = g.zones;
-    let mut z = 0;
+    let mut zone = 0;
     let mut free = false;
-    let mut w = from_zone(map, g, 0);
-    while w.zone < zones {
-        let s = next(map, g, w);
-        let line = s.line;
+    for line in lines(map, g, 0, g.zones) {
         let now_free = line.holder == 0;
-        if both(both(free, now_free), line.zone == z) {
-            return Touching::Zone(line.zone as u32);
+        if free && now_free && line.zone == zone {
+            return Some(line.zone as u32);
         }
-        z = line.zone;
+        zone = line.zone;
         free = now_free;
-        w = s.after;
     }
-    Touching::None
+    None
 }

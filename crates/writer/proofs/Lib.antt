@@ -1,5 +1,4 @@
 pub mod FragmentWritten
-pub mod GapFragment
 pub mod PieceLists
 pub mod PairsMerged
 pub mod StayingPieces
@@ -12,6 +11,7 @@ pub mod ListCut
 pub mod ZonePass
 pub mod ListOrder
 pub mod PartPairs
+pub mod PartsGoneThrough
 pub mod ZonePieces
 pub mod ZoneEdited
 pub mod ZonesEdited

@@ -1,25 +1,24 @@
 -- Pairs merged into pieces from the end: what starts last of both goes last, and what is left is merged as before.
 use mathlib.Core.Path.{◌≡◌, refl, sym, ap, ap₂, ◌∙◌, subst, subst⁻¹}
-use mathlib.Core.Bool.{Bool, true, false, ◌&&◌}
-use mathlib.Core.List.{List, [], ◌∷◌, ◌++◌, append_assoc}
-use Prim.Native.Nat.{ℕ, suc, ◌+◌, ◌-◌, ◌*◌, ◌<◌, ◌≤◌}
+use mathlib.Core.List.{List, [], ◌∷◌, ◌++◌, map, append_assoc, append-nil, map-append}
+use Prim.Native.Nat.{ℕ, suc, ◌+◌, ◌-◌, ◌*◌, ◌/◌, ◌<◌, ◌≤◌}
 use native.Mathlib.Omega.{arith}
 use lib.Dec.{ltb}
-use lib.ListN.{length, get_or}
+use lib.ListN.{length, get_or, set, take, drop, take-append-drop, length-map}
+use lib.Seq.{take-set-le}
 use borrow.Author.Tests.{lt-ltb, le-ltb, ltb-true, ltb-false}
-use Rattle.bits.proofs.Tests.{by_test, both}
+use Rattle.std.proofs.lemmas.List.{take_all, drop_all}
+use Rattle.bits.proofs.Tests.{by_test}
 use Rattle.model.specs.Pieces.{Piece}
 use Rattle.edits.specs.Order.{Ascending}
-use Rattle.edits.specs.Edits.{insert, put}
+use Rattle.edits.specs.Edits.{insert, put, own}
+use Rattle.edits.specs.Judge.{pairs_from}
 use Rattle.writer.specs.declared.Piece as code
 use Rattle.writer.specs.declared.Pair as listed
 use Rattle.writer.specs.Parts.{pair_in}
-use Rattle.writer.specs.Listed.{run, piece_in, as_piece, piece_at, pieces_from, with_piece, owned_pair, owned_pairs, Merging}
-use Rattle.writer.proofs.PieceLists.{run_append, run_last, run_first, piece_here, pieces_below, pieces_above}
-
--- a pair as a piece of `id`
-abbrev given : ℕ → listed.Pair → code.Piece
-given id q = record { owner = id; start = q.start; len = q.len }
+use Rattle.writer.specs.Listed.{piece, as_piece, as_pieces, Merged}
+use Rattle.writer.proofs.PairLists.{length_pairs}
+use Rattle.writer.proofs.PieceLists.{last_pair, last_piece, from_stored}
 
 -- all start before, or not after, a place
 abbrev Below : ℕ → List Piece → Type 0
@@ -60,129 +59,128 @@ put_end : (xs : List Piece) (q : Piece) (m : List Piece) → put (xs ++ (q ∷ [
 put_end [] q m = refl
 put_end (x ∷ xs) q m = ap (insert x) (put_end xs q m)
 
--- both lists are used up
-pub merge_ends : {id : ℕ} {list pieces : List ℕ} {i j n : ℕ} {all : List Piece} → Merging id list pieces i j n all → j ≤ 0 → all ≡ pieces_from pieces 0 n
-merge_ends {id} {list} {pieces} {i} {j} {n} {all} m h =
-    let e : j ≡ 0 = omega arith in
-    let f : i + j ≡ 0 + i = omega arith in
-    let k : n - (i + j) ≡ n - i = omega arith in
-    let s : i + (n - i) ≡ n = omega (arith, m.within) in
-    m.whole
-    ∙ (λ x. put (owned_pairs id list (e x)) (pieces_from pieces 0 i) ++ pieces_from pieces (f x) (k x))
-    ∙ sym (run_append (piece_at pieces) 0 i (n - i))
-    ∙ ap (run (piece_at pieces) 0) s
+-- what a place past the end has
+abbrev pub none : code.Piece
+none = record { owner = 0; start = record { 0 = 0 }; len = 0 }
 
-module _ {id : ℕ} {list pieces : List ℕ} {i j n : ℕ} {all : List Piece} (m : Merging id list pieces i j n all) (pos : 0 < j) (sized : 3 * (i + j) ≤ length pieces)
-    {pq : listed.Pair} (eq : pq ≡ pair_in list (2 * (j - 1))) where
-  abbrev q : Piece
-  q = owned_pair id list (j - 1)
+-- The first j of the pairs that come and the first i pieces are left to be merged, and what was merged stands from piece i + j on; together
+-- they are `all`.
+pub record Merging (come : List Piece) (pieces : List code.Piece) (i j : ℕ) (all : List Piece) : Type 0 where
+  pub pairs_ascend : Ascending 0 (take j come)
+  pub pieces_ascend : Ascending 0 (as_pieces (take i pieces))
+  pub whole : all ≡ put (take j come) (as_pieces (take i pieces)) ++ as_pieces (drop (i + j) pieces)
 
-  abbrev xs : List Piece
-  xs = owned_pairs id list (j - 1)
+-- the same of the pairs of a list and the pieces that were there, where both ascend
+abbrev pub MergedSo : ℕ → List ℕ → List code.Piece → List code.Piece → ℕ → ℕ → Type 0
+MergedSo id list old pieces i j =
+    let come = map (own id) (pairs_from list) in
+    let there = as_pieces (take (length old - length list / 2) old) in
+    Ascending 0 come → Ascending 0 there → Merging come pieces i j (put come there)
 
-  read_start : pq.start.0 ≡ get_or list (2 * (j - 1)) 0
-  read_start = ap (λ (y : listed.Pair). y.start.0) eq
+module _ (id : ℕ) (list : List ℕ) (old : List code.Piece) where
+  abbrev come : List Piece
+  come = map (own id) (pairs_from list)
 
-  pairs_are : owned_pairs id list j ≡ xs ++ (q ∷ [])
-  pairs_are = run_last (owned_pair id list) j pos
+  abbrev there : List Piece
+  there = as_pieces (take (length old - length list / 2) old)
 
-  pairs_tell : Ascending 0 xs × Below q.at.start xs × (0 ≤ q.at.start)
-  pairs_tell = asc_front 0 xs q (subst (λ (l : List Piece). Ascending 0 l) pairs_are m.pairs_ascend)
+  pub merge_starts : length list / 2 ≤ length old → MergedSo id list old old (length old - length list / 2) (length list / 2)
+  merge_starts h = λ a b.
+      let k = length list / 2 in
+      let i = length old - k in
+      let all : take k come ≡ come = take_all k come (omega (arith, length-map (pairs_from list) (own id), length_pairs list)) in
+      let none : drop (i + k) old ≡ [] = drop_all (i + k) old (omega arith) in
+      record {
+        pairs_ascend = subst⁻¹ (Ascending 0) all a;
+        pieces_ascend = b;
+        whole = sym ((λ x. put (all x) there ++ as_pieces (none x)) ∙ append-nil (put come there));
+      }
 
-  -- the place that the last one goes to, with what stands after it
-  module _ (x : code.Piece) where
-    abbrev new : List ℕ
-    new = with_piece pieces (i + (j - 1)) x
+  -- the pairs are used up
+  pub merge_ends : (pieces : List code.Piece) (i j : ℕ) → MergedSo id list old pieces i j → j ≤ 0 → Merged id list old pieces
+  merge_ends pieces i j m h = λ a b.
+      let e : j ≡ 0 = omega arith in
+      let f : i + j ≡ i = omega arith in
+      sym
+      ((m a b).whole
+      ∙ (λ x. put (take (e x) come) (as_pieces (take i pieces)) ++ as_pieces (drop (f x) pieces))
+      ∙ sym (map-append as_piece (take i pieces) (drop i pieces))
+      ∙ ap as_pieces (take-append-drop i pieces))
 
-    placed : {k : ℕ} → k ≡ i + (j - 1) → pieces_from new k (n - k) ≡ as_piece x ∷ pieces_from pieces (i + j) (n - (i + j))
-    placed {k} e =
-        let f : i + j ≡ suc k = omega arith in
-        let g : n - k ≡ suc (n - (i + j)) = omega (arith, m.within) in
-        run_first (piece_at new) k (i + j) (n - k) (n - (i + j)) g f
-        ∙ ap₂ (λ (y : Piece) (r : List Piece). y ∷ r) (ap (piece_at new) e ∙ ap (as_piece) (piece_here pieces (i + (j - 1)) x (omega arith))) (pieces_above pieces (i + (j - 1)) x (i + j) (n - (i + j)) (omega arith))
+  module _ (pieces : List code.Piece) (i j : ℕ) (m : MergedSo id list old pieces i j) (pos : 0 < j) (few : j ≤ length list / 2) (room : i + j ≤ length pieces)
+      {pq : listed.Pair} (eq : pq ≡ pair_in list (2 * (j - 1))) where
+    abbrev q : Piece
+    q = piece pq.start.0 pq.len id
 
-  -- the last piece starts after the last pair
-  module _ (t : ltb 0 i && ltb pq.start.0 (get_or pieces (3 * (i - 1) + 1) 0) ≡ true) where
-    some_piece : 0 < i
-    some_piece = ltb-true 0 i (both (ltb 0 i) _ t).0
+    abbrev xs : List Piece
+    xs = take (j - 1) come
 
-    abbrev p : Piece
-    p = piece_at pieces (i - 1)
+    pairs_are : take j come ≡ xs ++ (q ∷ [])
+    pairs_are = last_pair id list j pos few eq
 
-    abbrev ys : List Piece
-    ys = pieces_from pieces 0 (i - 1)
+    abbrev there_now : List Piece
+    there_now = as_pieces (take i pieces)
 
-    pieces_are : pieces_from pieces 0 i ≡ ys ++ (p ∷ [])
-    pieces_are = run_last (piece_at pieces) i some_piece
+    abbrev done : List Piece
+    done = as_pieces (drop (i + j) pieces)
 
-    pieces_tell : Ascending 0 ys × Below p.at.start ys × (0 ≤ p.at.start)
-    pieces_tell = asc_front 0 ys p (subst (λ (l : List Piece). Ascending 0 l) pieces_are m.pieces_ascend)
+    abbrev to : ℕ
+    to = i + j - 1
 
-    pair_before : q.at.start < p.at.start
-    pair_before =
-        let k : pq.start.0 < get_or pieces (3 * (i - 1) + 1) 0 = ltb-true pq.start.0 (get_or pieces (3 * (i - 1) + 1) 0) (both (ltb 0 i) _ t).1 in
-        omega (arith, read_start)
+    -- the last piece starts after the last pair
+    module _ (d : code.Piece) (some : 0 < i) (t : pq.start.0 < (get_or pieces (i - 1) d).start.0) where
+      abbrev x : code.Piece
+      x = get_or pieces (i - 1) d
 
-    split : put (owned_pairs id list j) (pieces_from pieces 0 i) ≡ put (owned_pairs id list j) ys ++ (p ∷ [])
-    split =
-        ap (put (owned_pairs id list j)) pieces_are
-        ∙ put_front (owned_pairs id list j) ys p
-        (subst (λ (l : List Piece). Below p.at.start l) (sym pairs_are) (below_more p.at.start xs q pairs_tell.1 pair_before))
+      abbrev ys : List Piece
+      ys = as_pieces (take (i - 1) pieces)
 
-    pub merge_piece : {x : code.Piece} {next : List ℕ} → x ≡ piece_in pieces (i - 1) → next ≡ with_piece pieces (i + (j - 1)) x → Merging id list next (i - 1) j n all
-    merge_piece {x} {next} ex en =
-        let same = pieces_below pieces (i + (j - 1)) x (i - 1) (omega arith) in
-        let s = some_piece in
-        subst⁻¹ (λ (l : List ℕ). Merging id list l (i - 1) j n all) en
-        (record {
-          pairs_ascend = m.pairs_ascend;
-          pieces_ascend = subst (λ (l : List Piece). Ascending 0 l) (sym same) pieces_tell.0;
-          within = omega (arith, m.within);
-          whole = m.whole
-              ∙ ap (λ (r : List Piece). r ++ pieces_from pieces (i + j) (n - (i + j))) split
-              ∙ append_assoc (put (owned_pairs id list j) ys) (p ∷ []) (pieces_from pieces (i + j) (n - (i + j)))
-              ∙ ap₂ (λ (x : List Piece) (y : List Piece). put (owned_pairs id list j) x ++ y) (sym same)
-              (ap (λ (y : code.Piece). as_piece y ∷ pieces_from pieces (i + j) (n - (i + j))) (sym ex) ∙ sym (placed x {k = i - 1 + j} (omega arith)));
-        })
+      pieces_are : there_now ≡ ys ++ (as_piece x ∷ [])
+      pieces_are = last_piece pieces d i some (omega arith)
 
-  -- the last pair starts after the last piece, or there is no piece
-  module _ (t : ltb 0 i && ltb pq.start.0 (get_or pieces (3 * (i - 1) + 1) 0) ≡ false) where
-    pieces_before : NotAfter q.at.start (pieces_from pieces 0 i)
-    pieces_before =
-        by_test (ltb 0 i)
-        (λ s. let h = ltb-true 0 i s in
-        let ys = pieces_from pieces 0 (i - 1) in
-        let p = piece_at pieces (i - 1) in
-        let e : pieces_from pieces 0 i ≡ ys ++ (p ∷ []) = run_last (piece_at pieces) i h in
-        let w = asc_front 0 ys p (subst (λ (l : List Piece). Ascending 0 l) e m.pieces_ascend) in
-        let k : get_or pieces (3 * (i - 1) + 1) 0 ≤ pq.start.0 = ltb-false pq.start.0 (get_or pieces (3 * (i - 1) + 1) 0) (rw s at t) in
-        subst (λ (l : List Piece). NotAfter q.at.start l) (sym e) (not_after_more q.at.start ys p w.1 (omega (arith, read_start))))
-        (λ s. let e : i ≡ 0 = omega (arith, ltb-false 0 i s) in subst (λ (x : ℕ). NotAfter q.at.start (pieces_from pieces 0 x)) (sym e) tt)
+      abbrev next : List code.Piece
+      next = set pieces to x
 
-    pub merge_pair : {x : code.Piece} {next : List ℕ} → x ≡ given id pq → next ≡ with_piece pieces (i + (j - 1)) x → Merging id list next i (j - 1) n all
-    merge_pair {x} {next} ex en =
-        let there = pieces_from pieces 0 i in
-        let same = pieces_below pieces (i + (j - 1)) x i (omega arith) in
-        let split : put (owned_pairs id list j) there ≡ put xs there ++ (q ∷ []) =
-        ap (λ (l : List Piece). put l there) pairs_are ∙ put_end xs q there ∙ ap (put xs) (insert_end q there pieces_before) ∙ put_front xs there q pairs_tell.1 in
-        subst⁻¹ (λ (l : List ℕ). Merging id list l i (j - 1) n all) en
-        (record {
-          pairs_ascend = pairs_tell.0;
-          pieces_ascend = subst (λ (l : List Piece). Ascending 0 l) (sym same) m.pieces_ascend;
-          within = omega (arith, m.within);
-          whole = m.whole
-              ∙ ap (λ (r : List Piece). r ++ pieces_from pieces (i + j) (n - (i + j))) split
-              ∙ append_assoc (put xs there) (q ∷ []) (pieces_from pieces (i + j) (n - (i + j)))
-              ∙ ap₂ (λ (x : List Piece) (y : List Piece). put xs x ++ y) (sym same)
-              (ap (λ (y : code.Piece). as_piece y ∷ pieces_from pieces (i + j) (n - (i + j))) (ap (given id) (sym eq) ∙ sym ex) ∙ sym (placed x {k = i + (j - 1)} refl));
-        })
+      pub merge_piece : MergedSo id list old (set pieces (i + j - 1) (get_or pieces (i - 1) d)) (i - 1) j
+      merge_piece = λ a b.
+          let w = m a b in
+          let pairs_tell = asc_front 0 xs q (subst (Ascending 0) pairs_are w.pairs_ascend) in
+          let pieces_tell = asc_front 0 ys (as_piece x) (subst (Ascending 0) pieces_are w.pieces_ascend) in
+          let split : put (take j come) there_now ≡ put (take j come) ys ++ (as_piece x ∷ []) =
+          ap (put (take j come)) pieces_are ∙ put_front (take j come) ys (as_piece x) (subst⁻¹ (Below x.start.0) pairs_are (below_more x.start.0 xs q pairs_tell.1 t)) in
+          let same : as_pieces (take (i - 1) next) ≡ ys = ap as_pieces (take-set-le (i - 1) pieces to x (omega arith)) in
+          let rest : as_pieces (drop (i - 1 + j) next) ≡ as_piece x ∷ done = from_stored pieces x to (i - 1 + j) (i + j) (omega arith) (omega arith) (omega arith) in
+          record {
+            pairs_ascend = w.pairs_ascend;
+            pieces_ascend = subst⁻¹ (Ascending 0) same pieces_tell.0;
+            whole = w.whole ∙ ap (λ (r : List Piece). r ++ done) split ∙ append_assoc (put (take j come) ys) (as_piece x ∷ []) done
+                ∙ sym (ap₂ (λ (r : List Piece) (s : List Piece). put (take j come) r ++ s) same rest);
+          }
 
--- the answers of `starts_after`
-pub starts_none : (i : ℕ) (b : Bool) → i ≡ 0 → false ≡ ltb 0 i && b
-starts_none i b e = simp (le-ltb 0 i (omega arith))
+    -- the last pair starts after the last piece, or there is no piece
+    module _ (d : code.Piece) (t : 0 < i → (get_or pieces (i - 1) d).start.0 ≤ pq.start.0) where
+      pieces_before : Ascending 0 there_now → NotAfter q.at.start there_now
+      pieces_before a =
+          by_test (ltb 0 i)
+          (λ s. let some = ltb-true 0 i s in
+          let ys = as_pieces (take (i - 1) pieces) in
+          let p = as_piece (get_or pieces (i - 1) d) in
+          let e : there_now ≡ ys ++ (p ∷ []) = last_piece pieces d i some (omega arith) in
+          subst⁻¹ (NotAfter q.at.start) e (not_after_more q.at.start ys p (asc_front 0 ys p (subst (Ascending 0) e a)).1 (t some)))
+          (λ s. let e : i ≡ 0 = omega (arith, ltb-false 0 i s) in subst⁻¹ (λ (k : ℕ). NotAfter q.at.start (as_pieces (take k pieces))) e tt)
 
-pub starts_some : (i : ℕ) (b : Bool) → (i ≡ 0 → ⊥) → b ≡ ltb 0 i && b
-starts_some i b n = simp (lt-ltb 0 i (omega arith))
-
-pub some_pieces : (i : ℕ) (b : Bool) {r : Bool} → r ≡ ltb 0 i && b → r ≡ true → 1 ≤ i
-some_pieces i b e t = ltb-true 0 i (both (ltb 0 i) b (sym e ∙ t)).0
+      pub merge_pair : MergedSo id list old (set pieces (i + j - 1) (record { owner = id; start = pq.start; len = pq.len })) i (j - 1)
+      merge_pair = λ a b.
+          let w = m a b in
+          let new : code.Piece = record { owner = id; start = pq.start; len = pq.len } in
+          let pairs_tell = asc_front 0 xs q (subst (Ascending 0) pairs_are w.pairs_ascend) in
+          let split : put (take j come) there_now ≡ put xs there_now ++ (q ∷ []) =
+          ap (λ (l : List Piece). put l there_now) pairs_are ∙ put_end xs q there_now ∙ ap (put xs) (insert_end q there_now (pieces_before w.pieces_ascend)) ∙ put_front xs there_now q pairs_tell.1 in
+          let same : as_pieces (take i (set pieces to new)) ≡ there_now = ap as_pieces (take-set-le i pieces to new (omega arith)) in
+          let rest : as_pieces (drop (i + (j - 1)) (set pieces to new)) ≡ q ∷ done = from_stored pieces new to (i + (j - 1)) (i + j) (omega arith) (omega arith) (omega arith) in
+          record {
+            pairs_ascend = pairs_tell.0;
+            pieces_ascend = subst⁻¹ (Ascending 0) same w.pieces_ascend;
+            whole = w.whole ∙ ap (λ (r : List Piece). r ++ done) split ∙ append_assoc (put xs there_now) (q ∷ []) done
+                ∙ sym (ap₂ (λ (r : List Piece) (s : List Piece). put xs r ++ s) same rest);
+          }

@@ -1,11 +1,12 @@
 -- Pieces drawn from the last to the first: a gap drawn before what is drawn, and a fragment written before that.
 use mathlib.Core.Path.{◌≡◌, sym, ap, ap₂, ◌∙◌, subst, subst⁻¹}
 use mathlib.Core.Bool.{Bool, true, false, cond}
-use mathlib.Core.List.{List, [], ◌∷◌, ◌++◌, map, append_assoc}
+use mathlib.Core.List.{List, [], ◌∷◌, ◌++◌, map, append_assoc, map-append, reverse}
 use Prim.Native.Nat.{ℕ, suc, ◌+◌, ◌-◌, ◌*◌, ◌^◌, ◌<◌, ◌≤◌}
 use native.Mathlib.Omega.{arith}
 use lib.Dec.{ltb}
-use lib.ListN.{length, take, drop, take-append-drop}
+use lib.ListN.{length, get_or, take, drop, take-append-drop}
+use Rattle.std.proofs.lemmas.List.{take_all, drop_all, drop_more, get_or-reverse, length-reverse}
 use lib.Seq.{take-take, take-append-le, length-take-le, drop_at}
 use borrow.Author.Tests.{le-ltb}
 use Rattle.bits.specs.Bits.{byte_bits, number_bits}
@@ -21,8 +22,8 @@ use Rattle.model.proofs.ZoneDrawn.{hole_le, lies, lies_le}
 use Rattle.edits.specs.Written.{to_block}
 use Rattle.writer.specs.Redraw.{GapAsks, fragment_put, GapDrawn, Redrawn}
 use Rattle.writer.specs.declared.Piece as code
-use Rattle.writer.specs.Listed.{piece, run, piece_in, piece_at, pieces_from, ZoneDrawing}
-use Rattle.writer.proofs.PieceLists.{run_last, run_first, map_run}
+use Rattle.writer.specs.Listed.{piece, as_piece, as_pieces, ZoneDrawing}
+use Rattle.writer.proofs.PieceLists.{last_piece}
 
 -- the first piece starts at `to`, or there is none and `to` is the end
 abbrev start_of : ℕ → List Piece → ℕ
@@ -89,28 +90,32 @@ last_draws idlen at end (x ∷ xs) p d =
 drawable_le : (n at end : ℕ) (ps : List Piece) → Drawable n at end ps → at ≤ end
 drawable_le n at end ps d = lies_le at end ps (lies n at end ps d)
 
--- the pieces of a list in the block bits of zone z
-abbrev block_piece : Geometry → ℕ → List ℕ → ℕ → Piece
-block_piece g z l i = to_block g z (piece_at l i)
+-- pieces in the block bits of zone z
+abbrev block_pieces : Geometry → ℕ → List code.Piece → List Piece
+block_pieces g z l = map (to_block g z) (as_pieces l)
 
-abbrev block_pieces : Geometry → ℕ → List ℕ → ℕ → ℕ → List Piece
-block_pieces g z l i n = run (block_piece g z l) i n
+-- of pieces gone through from the last to the first: the one that comes after n of them, and that none is left
+pub from_last : (xs : List code.Piece) (n : ℕ) (x : code.Piece) → (n < length (reverse xs)) × (x ≡ get_or (reverse xs) n x) → (0 < length xs - n) × (x ≡ get_or xs (length xs - n - 1) x)
+from_last xs n x t =
+    let l : n < length xs = omega (arith, t.0, length-reverse xs) in
+    let e : length xs - 1 - n ≡ length xs - n - 1 = omega arith in
+    (omega arith, t.1 ∙ get_or-reverse xs n x l ∙ ap (λ (k : ℕ). get_or xs k x) e)
 
-in_block : (g : Geometry) (z : ℕ) (pieces : List ℕ) (n : ℕ) → map (to_block g z) (pieces_from pieces 0 n) ≡ block_pieces g z pieces 0 n
-in_block g z pieces n = map_run (to_block g z) (piece_at pieces) 0 n
+pub none_more : (xs : List code.Piece) (n : ℕ) → n ≡ length (reverse xs) → length xs - n ≤ 0
+none_more xs n e = omega (arith, length-reverse xs)
 
--- i lines are left, and from `to` on the zone is drawn
-pub record DrawnFrom (g : Geometry) (z : ℕ) (pieces : List ℕ) (n : ℕ) (B W : List Bool) (i to next : ℕ) : Type 0 where
-  pub left : i ≤ n
+-- i pieces are left, and from `to` on the zone is drawn
+pub record DrawnFrom (g : Geometry) (z : ℕ) (pieces : List code.Piece) (B W : List Bool) (i to next : ℕ) : Type 0 where
+  pub left : i ≤ length pieces
   pub within : to ≤ end_bit g
-  pub front : Drawable g.idlen (first_bit z) to (block_pieces g z pieces 0 i)
-  pub starts : start_of (end_bit g) (block_pieces g z pieces i (n - i)) ≡ to
-  pub drawn : Redrawn g.idlen to (end_bit g) (block_pieces g z pieces i (n - i)) B W next
+  pub front : Drawable g.idlen (first_bit z) to (block_pieces g z (take i pieces))
+  pub starts : start_of (end_bit g) (block_pieces g z (drop i pieces)) ≡ to
+  pub drawn : Redrawn g.idlen to (end_bit g) (block_pieces g z (drop i pieces)) B W next
 
-pub same_size : {g : Geometry} {z : ℕ} {block pieces : List ℕ} {n : ℕ} (other : List ℕ) → length other ≡ length block → ZoneDrawing g z block pieces n → ZoneDrawing g z other pieces n
-same_size other e q = record { numbers = q.numbers; zone = q.zone; sized = e ∙ q.sized; listed = q.listed; drawable = q.drawable }
+pub same_size : {g : Geometry} {z : ℕ} {block : List ℕ} {pieces : List code.Piece} (other : List ℕ) → length other ≡ length block → ZoneDrawing g z block pieces → ZoneDrawing g z other pieces
+same_size other e q = record { numbers = q.numbers; zone = q.zone; sized = e ∙ q.sized; drawable = q.drawable }
 
-module _ {g : Geometry} {z : ℕ} {block pieces : List ℕ} {n : ℕ} (q : ZoneDrawing g z block pieces n) where
+module _ {g : Geometry} {z : ℕ} {block : List ℕ} {pieces : List code.Piece} (q : ZoneDrawing g z block pieces) where
   abbrev idlen : ℕ
   idlen = g.idlen
 
@@ -128,98 +133,92 @@ module _ {g : Geometry} {z : ℕ} {block pieces : List ℕ} {n : ℕ} (q : ZoneD
         next_reached = omega (arith, q.numbers.bits_in_block, q.numbers.links_reach);
       }
 
-  pub draw_starts : (B : List Bool) → DrawnFrom g z pieces n B B n (end_bit g) 0
+  pub draw_starts : (B : List Bool) → DrawnFrom g z pieces B B (length pieces) (end_bit g) 0
   draw_starts B =
       let end = end_bit g in
-      let e : n - n ≡ 0 = omega arith in
-      let none : block_pieces g z pieces n (n - n) ≡ [] = ap (run (block_piece g z pieces) n) e in
+      let n = length pieces in
+      let none : block_pieces g z (drop n pieces) ≡ [] = ap (block_pieces g z) (drop_all n pieces (omega arith)) in
       record {
         left = omega arith;
         within = omega arith;
-        front = subst (λ (ps : List Piece). Drawable idlen (first_bit z) end ps) (in_block g z pieces n) q.drawable;
+        front = subst⁻¹ (λ (l : List code.Piece). Drawable idlen (first_bit z) end (block_pieces g z l)) (take_all n pieces (omega arith)) q.drawable;
         starts = ap (start_of end) none;
         drawn = subst⁻¹ (λ (ps : List Piece). Redrawn idlen end end ps B B 0) none
             (record { bits = simp (none_between end) (sym (take-append-drop end B)); first_is = simp (none_between end); first_in = omega arith });
       }
 
-  module _ {B W : List Bool} (he : end_bit g ≤ length B) {i to next : ℕ} (s : DrawnFrom g z pieces n B W i to next) where
+  module _ {B W : List Bool} (he : end_bit g ≤ length B) {i to next : ℕ} (s : DrawnFrom g z pieces B W i to next) where
     -- the gap before the first piece
     module _ (h : i ≤ 0) {start : ℕ} (es : start ≡ first_bit z) where
+      none_left : i ≡ 0
+      none_left = omega arith
+
       pub last_gap : {W2 : List Bool} {first : ℕ} → GapDrawn idlen start to next W W2 first
-          → Redrawn idlen (first_bit z) (end_bit g) (map (to_block g z) (pieces_from pieces 0 n)) B W2 first
+          → Redrawn idlen (first_bit z) (end_bit g) (map (to_block g z) (as_pieces pieces)) B W2 first
       last_gap {W2} {first} d =
-          let e : i ≡ 0 = omega arith in
-          let k : n - i ≡ n = omega arith in
-          let all : block_pieces g z pieces i (n - i) ≡ map (to_block g z) (pieces_from pieces 0 n) = (λ x. run (block_piece g z pieces) (e x) (k x)) ∙ sym (in_block g z pieces n) in
-          subst (λ (ps : List Piece). Redrawn idlen (first_bit z) (end_bit g) ps B W2 first) all
-          (gap_turn s.starts (drawable_le idlen (first_bit z) to (block_pieces g z pieces 0 i) s.front) s.within he s.drawn
+          subst (λ (k : ℕ). Redrawn idlen (first_bit z) (end_bit g) (block_pieces g z (drop k pieces)) B W2 first) none_left
+          (gap_turn s.starts (drawable_le idlen (first_bit z) to (block_pieces g z (take i pieces)) s.front) s.within he s.drawn
           (subst (λ (x : ℕ). GapDrawn idlen x to next W W2 first) es d))
 
       pub last_asks : GapAsks (length block) idlen start to next
       last_asks =
-          let e : i ≡ 0 = omega arith in
           subst⁻¹ (λ (x : ℕ). GapAsks (length block) idlen x to next) es
-          (gap_asks (first_bit z) to next (omega (arith, first_low z)) (subst (λ (x : ℕ). Drawable idlen (first_bit z) to (block_pieces g z pieces 0 x)) e s.front) s.within s.drawn.first_in)
+          (gap_asks (first_bit z) to next (omega (arith, first_low z)) (subst (λ (k : ℕ). Drawable idlen (first_bit z) to (block_pieces g z (take k pieces))) none_left s.front) s.within s.drawn.first_in)
 
-    module _ (pos : 0 < i) where
+    -- the last piece that is left, as the code has read it
+    module _ (pos : 0 < i) {x : code.Piece} (ex : x ≡ get_or pieces (i - 1) x) {at : ℕ} (eb : at ≡ block_bit g z x.start.0) where
+      abbrev len : ℕ
+      len = x.len
+
+      abbrev id : ℕ
+      id = x.owner
+
       abbrev p : Piece
-      p = block_piece g z pieces (i - 1)
+      p = piece at x.len x.owner
 
-      piece_tells : Drawable idlen (first_bit z) p.at.start (block_pieces g z pieces 0 (i - 1)) × (idlen < p.at.len) × (p.owner < 2 ^ idlen)
-          × GapRoom idlen (p.at.start + p.at.len) to
+      in_block : to_block g z (as_piece (get_or pieces (i - 1) x)) ≡ p
+      in_block = ap (λ (y : code.Piece). to_block g z (as_piece y)) (sym ex) ∙ ap (λ (b : ℕ). piece b x.len x.owner) (sym eb)
+
+      pieces_left : block_pieces g z (take i pieces) ≡ block_pieces g z (take (i - 1) pieces) ++ (p ∷ [])
+      pieces_left =
+          let ys = take (i - 1) pieces in
+          ap (map (to_block g z)) (last_piece pieces x i pos s.left) ∙ map-append (to_block g z) (as_pieces ys) (as_piece (get_or pieces (i - 1) x) ∷ [])
+          ∙ ap (λ (y : Piece). block_pieces g z ys ++ (y ∷ [])) in_block
+
+      pieces_drawn : block_pieces g z (drop (i - 1) pieces) ≡ p ∷ block_pieces g z (drop i pieces)
+      pieces_drawn =
+          let n : i - 1 + 1 ≡ i = omega arith in
+          ap (block_pieces g z) (drop_more pieces (i - 1) x (omega (arith, s.left))) ∙ (λ k. in_block k ∷ block_pieces g z (drop (n k) pieces))
+
+      piece_tells : Drawable idlen (first_bit z) at (block_pieces g z (take (i - 1) pieces)) × (idlen < x.len) × (x.owner < 2 ^ idlen) × GapRoom idlen (at + x.len) to
       piece_tells =
-          last_draws idlen (first_bit z) to (block_pieces g z pieces 0 (i - 1)) p
-          (subst (λ (ps : List Piece). Drawable idlen (first_bit z) to ps) (run_last (block_piece g z pieces) i pos) s.front)
+          last_draws idlen (first_bit z) to (block_pieces g z (take (i - 1) pieces)) p
+          (subst (λ (ps : List Piece). Drawable idlen (first_bit z) to ps) pieces_left s.front)
 
-      ends_by : p.at.start + p.at.len ≤ to
-      ends_by = hole_le idlen (p.at.start + p.at.len) to piece_tells.3
+      ends_by : at + x.len ≤ to
+      ends_by = hole_le idlen (at + x.len) to piece_tells.3
 
-      -- the line as the code has read it
-      module _ {x : code.Piece} (ex : x ≡ piece_in pieces (i - 1)) {at : ℕ} (eb : at ≡ block_bit g z x.start.0) where
-        abbrev len : ℕ
-        len = x.len
+      pub piece_fits : (at + x.len ≤ to) × (to ≤ 8192)
+      piece_fits = (ends_by, omega (arith, s.within, q.numbers.bits_high))
 
-        abbrev id : ℕ
-        id = x.owner
+      pub gap_fits : GapAsks (length block) idlen (at + x.len) to next
+      gap_fits = gap_asks (at + x.len) to next (omega (arith, piece_tells.1)) piece_tells.3 s.within s.drawn.first_in
 
-        ea : at ≡ p.at.start
-        ea = eb ∙ ap (λ (y : code.Piece). block_bit g z y.start.0) ex
+      pub fragment_fits : (idlen < x.len) × (at + x.len ≤ length block * 8) × (at + x.len < 2 ^ 64) × (x.owner < 2 ^ idlen)
+      fragment_fits =
+          let t = piece_tells in
+          let u : at + x.len ≤ end_bit g = omega (arith, ends_by, s.within) in
+          (t.1, omega (arith, q.sized, q.numbers.bits_in_block), omega (arith, q.numbers.bits_high), t.2)
 
-        el : len ≡ p.at.len
-        el = ap (λ (y : code.Piece). y.len) ex
-
-        ei : id ≡ p.owner
-        ei = ap (λ (y : code.Piece). y.owner) ex
-
-        same_piece : piece at len id ≡ p
-        same_piece = (λ x. piece (ea x) (el x) (ei x))
-
-        pub piece_fits : (at + len ≤ to) × (to ≤ 8192)
-        piece_fits = (omega (arith, ends_by, ea, el), omega (arith, s.within, q.numbers.bits_high))
-
-        pub gap_fits : GapAsks (length block) idlen (at + len) to next
-        gap_fits =
-            gap_asks (at + len) to next (omega (arith, piece_tells.1, el))
-            (subst⁻¹ (λ (x : ℕ). GapRoom idlen x to) (ap₂ (λ (x y : ℕ). x + y) ea el) piece_tells.3) s.within s.drawn.first_in
-
-        pub fragment_fits : (idlen < len) × (at + len ≤ length block * 8) × (at + len < 2 ^ 64) × (id < 2 ^ idlen)
-        fragment_fits =
-            let t = piece_tells in
-            let u : at + len ≤ end_bit g = omega (arith, ends_by, ea, el, s.within) in
-            (omega (arith, t.1, el), omega (arith, q.sized, q.numbers.bits_in_block), omega (arith, q.numbers.bits_high), subst⁻¹ (λ (x : ℕ). x < 2 ^ idlen) ei t.2)
-
-        pub draw_turn : {W2 W3 : List Bool} {first : ℕ} → GapDrawn idlen (at + len) to next W W2 first → W3 ≡ fragment_put idlen at len id W2
-            → DrawnFrom g z pieces n B W3 (i - 1) at first
-        draw_turn {W2} {W3} {first} d e =
-            let t = piece_tells in
-            let r = block_pieces g z pieces i (n - i) in
-            let more : block_pieces g z pieces (i - 1) (n - (i - 1)) ≡ p ∷ r = run_first (block_piece g z pieces) (i - 1) i (n - (i - 1)) (n - i) (omega (arith, s.left)) (omega arith) in
-            let d1 = gap_turn {hole = at + len} s.starts (omega (arith, ends_by, ea, el)) s.within he s.drawn d in
-            let d2 = piece_turn {at = at} {len = len} {id = id} (omega (arith, ends_by, ea, el, s.within)) he d1 e in
-            record {
-              left = omega (arith, s.left);
-              within = omega (arith, ends_by, ea, el, s.within);
-              front = subst⁻¹ (λ (x : ℕ). Drawable idlen (first_bit z) x (block_pieces g z pieces 0 (i - 1))) ea t.0;
-              starts = ap (start_of (end_bit g)) more ∙ sym ea;
-              drawn = subst (λ (ps : List Piece). Redrawn idlen at (end_bit g) ps B W3 first) (ap (λ (x : Piece). x ∷ r) same_piece ∙ sym more) d2;
-            }
+      pub draw_turn : {W2 W3 : List Bool} {first : ℕ} → GapDrawn idlen (at + x.len) to next W W2 first → W3 ≡ fragment_put idlen at x.len x.owner W2
+          → DrawnFrom g z pieces B W3 (i - 1) at first
+      draw_turn {W2} {W3} {first} d e =
+          let d1 = gap_turn {hole = at + x.len} s.starts ends_by s.within he s.drawn d in
+          let d2 = piece_turn {at = at} {len = x.len} {id = x.owner} (omega (arith, ends_by, s.within)) he d1 e in
+          record {
+            left = omega (arith, s.left);
+            within = omega (arith, ends_by, s.within);
+            front = piece_tells.0;
+            starts = ap (start_of (end_bit g)) pieces_drawn;
+            drawn = subst⁻¹ (λ (ps : List Piece). Redrawn idlen at (end_bit g) ps B W3 first) pieces_drawn d2;
+          }

@@ -16,7 +16,8 @@ use Rattle.model.proofs.ByPlace.{zone_end_law}
 use Rattle.walk.proofs.ZonesRead.{zone_sound}
 use Rattle.edits.specs.Judge.{pairs_from}
 use Rattle.edits.specs.Written.{to_block, written}
-use Rattle.writer.specs.Listed.{pieces_from, ZoneDrawing}
+use Rattle.writer.specs.Listed.{as_pieces, ZoneDrawing}
+use Rattle.writer.specs.declared.Piece as code
 use Rattle.writer.specs.Edited.{owned_in_zone, pieces_after, ZoneEdit, zone_after, zone_put}
 use Rattle.writer.proofs.WholeZone.{drawing_listed}
 
@@ -31,12 +32,12 @@ module _ {m : List ℕ} {g : Geometry} {z gone : ℕ} {list : List ℕ} {id room
       ≡ written g.idlen (first_bit z) (end_bit g) (map (to_block g z) (pieces_after gone id (pairs_from list) (owned_in_zone g z (zone_block g m z)))) (bit_xor (cross_of (zone_block g m z)) change) (zone_block g m z)
   drawn_is change s = rw (lt-ltb 0 (length list) (omega arith))
 
-  module _ (pieces : List ℕ) (n : ℕ) (e : pieces_from pieces 0 n ≡ pieces_after gone id (pairs_from list) (owned_in_zone g z (zone_block g m z))) where
-    pub zone_drawing : 3 * n ≤ length pieces → ZoneDrawing g z (zone_block g m z) pieces n
-    zone_drawing h = drawing_listed pieces n q.part.reads.numbers q.part.zone (zone_sound q.part.reads z (omega arith) q.part.zone).sized h e q.drawable
+  module _ (pieces : List code.Piece) (e : as_pieces pieces ≡ pieces_after gone id (pairs_from list) (owned_in_zone g z (zone_block g m z))) where
+    pub zone_drawing : ZoneDrawing g z (zone_block g m z) pieces
+    zone_drawing = drawing_listed pieces q.part.reads.numbers q.part.zone (zone_sound q.part.reads z (omega arith) q.part.zone).sized e q.drawable
 
     pub some_drawn : (change : ℕ) → (length list ≡ 0 → ⊥) → {b : List ℕ}
-        → b ≡ written g.idlen (first_bit z) (end_bit g) (map (to_block g z) (pieces_from pieces 0 n)) (bit_xor (cross_of (zone_block g m z)) change) (zone_block g m z)
+        → b ≡ written g.idlen (first_bit z) (end_bit g) (map (to_block g z) (as_pieces pieces)) (bit_xor (cross_of (zone_block g m z)) change) (zone_block g m z)
         → zone_put g z m b ≡ zone_put g z m (zone_after g z gone list id change (zone_block g m z))
     some_drawn change s eb =
         let block = zone_block g m z in

@@ -8,7 +8,7 @@ use native.Mathlib.Nat.{div-mul-le_self, div-lt_iff_lt-mul, mul-le-mul_right}
 use native.Mathlib.Numerals.{add-one}
 use native.Mathlib.Omega.{arith}
 use lib.Dec.{ltb, leb}
-use lib.ListN.{length, drop}
+use lib.ListN.{length, take, drop}
 use borrow.Author.Tests.{eq-eqb, ne_eqb, ltb-true, ltb-false, le-leb, lt-leb}
 use Rattle.bits.proofs.Tests.{by_test}
 use Rattle.geometry.specs.declared.Geometry.{Geometry}
@@ -16,9 +16,10 @@ use Rattle.geometry.specs.Accepted.{AcceptedGeometry}
 use Rattle.geometry.specs.Places.{zone_of, zone_from, zone_end}
 use Rattle.model.specs.Chain.{Pair, numbers_of}
 use Rattle.edits.specs.Judge.{pairs_from}
+use Rattle.edits.proofs.Returned.{pairs_numbers}
 use Rattle.edits.proofs.Invariant.{in_zone_law, some_zone}
-use Rattle.writer.specs.Parts.{leading, Rising, Before, zone_pairs, IsPart, PartsLeft}
-use Rattle.writer.proofs.PairLists.{pairs_at, first_entries, entries_after, entries_in}
+use Rattle.writer.specs.Parts.{leading, Rising, Before, zone_pairs, zone_part, PairsLeft}
+use Rattle.writer.proofs.PairLists.{first_numbers, numbers_after}
 
 -- where a zone ends the next one starts
 pub next_zone : (g : Geometry) (z : ℕ) → zone_from g (z + 1) ≡ zone_end g z
@@ -27,10 +28,6 @@ next_zone g z = rw add-one
 pub rising_lower : (g : Geometry) (a b : ℕ) (qs : List Pair) → a ≤ b → Rising g b qs → Rising g a qs
 rising_lower g a b [] h r = tt
 rising_lower g a b (q ∷ qs) h r = (omega arith, r.1, r.2)
-
-rising_first : (g : Geometry) (at : ℕ) (xs ys : List Pair) → Rising g at (xs ++ ys) → Rising g at xs
-rising_first g at [] ys r = tt
-rising_first g at (x ∷ xs) ys r = (r.0, r.1, rising_first g (x.start + x.len) xs ys r.2)
 
 pub before_higher : (a b : ℕ) (qs : List Pair) → a ≤ b → Before a qs → Before b qs
 before_higher a b [] k w = tt
@@ -102,39 +99,30 @@ module _ (g : Geometry) (ok : AcceptedGeometry g) (z : ℕ) where
             others = λ y k. refl;
           }
 
-  -- the next part of the list
-  module _ (list : List ℕ) (to i : ℕ) (p : PartsLeft g list z to i) (h : z < to) (n : ℕ)
-      (e : n ≡ i + 2 * length (leading (zone_from g z) (zone_end g z) (pairs_from (drop i list)))) where
+  -- the next part of what is left
+  module _ (list rest : List ℕ) (to : ℕ) (p : PairsLeft g list z to rest) (h : z < to) (n : ℕ)
+      (e : n ≡ 2 * length (leading (zone_from g z) (zone_end g z) (pairs_from rest))) where
     here : Split p.left p.tail
     here = split (zone_from g z) p.left p.tail p.rising (omega arith) p.before
 
     abbrev first : List Pair
     first = leading (zone_from g z) (zone_end g z) (p.left ++ p.tail)
 
-    count : n ≡ i + 2 * length first
-    count = e ∙ ap (λ (qs : List Pair). i + 2 * length (leading (zone_from g z) (zone_end g z) qs)) (pairs_at list i (p.left ++ p.tail) p.rest)
+    count : n ≡ 2 * length first
+    count = e ∙ ap (λ (qs : List Pair). 2 * length (leading (zone_from g z) (zone_end g z) qs)) (ap pairs_from p.is ∙ pairs_numbers (p.left ++ p.tail))
 
-    rest_is : drop i list ≡ numbers_of (first ++ (here.later ++ p.tail))
-    rest_is = p.rest ∙ ap numbers_of (ap (λ (x : List Pair). x ++ p.tail) here.whole ∙ append_assoc first here.later p.tail)
+    rest_is : rest ≡ numbers_of (first ++ (here.later ++ p.tail))
+    rest_is = p.is ∙ ap numbers_of (ap (λ (x : List Pair). x ++ p.tail) here.whole ∙ append_assoc first here.later p.tail)
 
-    mine : zone_pairs g z (pairs_from list) ≡ first
-    mine = p.same z (omega arith) h ∙ here.part
-
-    pub part_found : IsPart g list z i n
-    part_found = record {
-      ordered = omega (arith, count);
-      in_list = entries_in list i first (here.later ++ p.tail) rest_is n count p.in_list;
-      part = first_entries list i first (here.later ++ p.tail) rest_is n count ∙ ap numbers_of (sym mine);
-      rising = subst (Rising g (zone_from g z)) (sym mine) (rising_first g (zone_from g z) first here.later (subst (Rising g (zone_from g z)) here.whole p.rising));
-    }
+    pub part_found : take n rest ≡ zone_part g list z
+    part_found = first_numbers first (here.later ++ p.tail) rest_is n count ∙ ap numbers_of (sym (p.same z (omega arith) h ∙ here.part))
 
     -- and the pairs after it
-    pub parts_after : PartsLeft g list (z + 1) to n
-    parts_after = record {
+    pub pairs_after : PairsLeft g list (z + 1) to (drop n rest)
+    pairs_after = record {
       left = here.later;
       tail = p.tail;
-      in_list = entries_in list i first (here.later ++ p.tail) rest_is n count p.in_list;
-      rest = entries_after list i first (here.later ++ p.tail) rest_is n count;
+      is = numbers_after first (here.later ++ p.tail) rest_is n count;
       rising = subst (λ (x : ℕ). Rising g x here.later) (sym (next_zone g z)) here.rising;
       before = before_higher (zone_from g z) (zone_from g (z + 1)) p.tail (zones_ordered g z (z + 1) (omega arith)) p.before;
       same = λ y k l. p.same y (omega arith) l ∙ here.others y (omega arith);

@@ -1,9 +1,10 @@
 -- The pieces of a zone that can be read ascend, so the pairs of a list, which do too, can be merged into those that stay.
-use mathlib.Core.Path.{◌≡◌, refl, sym, ap, ◌∙◌, subst⁻¹}
-use mathlib.Core.List.{List, [], ◌∷◌, ◌++◌, map, append-nil}
-use Prim.Native.Nat.{ℕ, suc, ◌+◌, ◌-◌, ◌*◌, ◌/◌, ◌<◌, ◌≤◌}
+use mathlib.Core.Path.{◌≡◌, refl, ap, ◌∙◌, subst⁻¹}
+use mathlib.Core.List.{List, [], ◌∷◌, map}
+use Prim.Native.Nat.{ℕ, suc, ◌+◌, ◌-◌, ◌/◌, ◌<◌, ◌≤◌}
 use native.Mathlib.Omega.{arith}
-use lib.ListN.{length, get_or}
+use lib.ListN.{length, take}
+use lib.Seq.{take-take, length-take-le}
 use borrow.Author.Tests.{eq-eqb, ne_eqb}
 use Rattle.geometry.specs.declared.Geometry.{Geometry}
 use Rattle.geometry.specs.Accepted.{AcceptedGeometry}
@@ -24,9 +25,9 @@ use Rattle.edits.specs.Order.{Ascending}
 use Rattle.edits.specs.Edits.{not_of, without, put, own}
 use Rattle.edits.specs.Judge.{pairs_from}
 use Rattle.edits.proofs.PutIn.{asc_weaken, asc_keep}
-use Rattle.writer.specs.Listed.{piece, run, piece_at, pieces_from, owned_pair, owned_pairs, Merging}
+use Rattle.writer.specs.declared.Piece as code
+use Rattle.writer.specs.Listed.{as_pieces, Merged}
 use Rattle.writer.specs.Edited.{owned_in_zone, pieces_after, PartAsks}
-use Rattle.writer.proofs.PieceLists.{run_shift}
 
 -- the pieces of a zone ascend, in block bits and in disc bits
 lies_ascend : (at end : ℕ) (ps : List Piece) → Lies at end ps → Ascending at ps
@@ -50,23 +51,6 @@ module _ {m : List ℕ} {g : Geometry} {z : ℕ} (a : ReadableFrom m g z) (h : z
       asc_weaken (owned_in_zone g z block) (omega arith)
       (disc_ascends g a.numbers z (first_bit z) (owned_of es) (omega arith) (lies_ascend (first_bit z) (first_bit z + total r.fragments) (owned_of es) l))
 
--- the pairs of a list
-module _ (id : ℕ) where
-  next_pair : (a b : ℕ) (l : List ℕ) (k : ℕ) → owned_pair id (a ∷ b ∷ l) (suc k) ≡ owned_pair id l k
-  next_pair a b l k =
-      let s : List ℕ = a ∷ b ∷ l in
-      let e0 : 2 * suc k ≡ suc (suc (2 * k)) = omega arith in
-      let e1 : 2 * suc k + 1 ≡ suc (suc (2 * k + 1)) = omega arith in
-      (λ x. piece (get_or s (e0 x) 0) (get_or s (e1 x) 0) id)
-
-  pairs_listed : (list : List ℕ) → owned_pairs id list (length list / 2) ≡ map (own id) (pairs_from list)
-  pairs_listed [] = refl
-  pairs_listed (a ∷ []) = refl
-  pairs_listed (a ∷ b ∷ l) =
-      let e : suc (suc (length l)) / 2 ≡ suc (length l / 2) = omega arith in
-      ap (run (owned_pair id (a ∷ b ∷ l)) 0) e
-      ∙ ap (λ (x : List Piece). piece a b id ∷ x) (run_shift (owned_pair id (a ∷ b ∷ l)) (owned_pair id l) 0 (length l / 2) (next_pair a b l) ∙ pairs_listed l)
-
 -- what the zone has after the edit: the pieces that stay where none come, else these with the pairs merged in
 module _ {m : List ℕ} {g : Geometry} {z id room : ℕ} {list : List ℕ} (q : PartAsks m g z list id room) (gone : ℕ) where
   abbrev l : List Piece
@@ -75,20 +59,13 @@ module _ {m : List ℕ} {g : Geometry} {z id room : ℕ} {list : List ℕ} (q : 
   pub none_come : id ≡ 0 → {ps : List Piece} → ps ≡ without gone (owned_in_zone g z (zone_block g m z)) → ps ≡ pieces_after gone id (pairs_from list) (owned_in_zone g z (zone_block g m z))
   none_come e kept = rw (eq-eqb id 0 e) kept
 
-  abbrev k : ℕ
-  k = length list / 2
-
-  pub merge_starts : {new : List ℕ} {n : ℕ} → pieces_from new 0 n ≡ without gone (owned_in_zone g z (zone_block g m z))
-      → Merging id list new n (length list / 2) (n + length list / 2) (put (map (own id) (pairs_from list)) (without gone (owned_in_zone g z (zone_block g m z))))
-  merge_starts {new} {n} kept =
-      let e : n + k - (n + k) ≡ 0 = omega arith in
-      record {
-        pairs_ascend = subst⁻¹ (λ (x : List Piece). Ascending 0 x) (pairs_listed id list) q.ascending;
-        pieces_ascend = subst⁻¹ (λ (x : List Piece). Ascending 0 x) kept (asc_keep (not_of gone) 0 l (zone_ascends q.reads q.zone));
-        within = omega arith;
-        whole = sym ((λ i. put (pairs_listed id list i) (kept i) ++ run (piece_at new) (n + k) (e i)) ∙ append-nil (put (map (own id) (pairs_from list)) (without gone l)));
-      }
-
-  pub some_come : (id ≡ 0 → ⊥) → {ps : List Piece} → put (map (own id) (pairs_from list)) (without gone (owned_in_zone g z (zone_block g m z))) ≡ ps
-      → ps ≡ pieces_after gone id (pairs_from list) (owned_in_zone g z (zone_block g m z))
-  some_come s e = rw (ne_eqb id 0 s) (sym e)
+  -- the n pieces that stay, with room for the pairs after them
+  pub some_come : (id ≡ 0 → ⊥) → (buffer : List code.Piece) (n : ℕ) → n + length list / 2 ≤ length buffer → as_pieces (take n buffer) ≡ without gone (owned_in_zone g z (zone_block g m z))
+      → (new : List code.Piece) → Merged id list (take (n + length list / 2) buffer) new → as_pieces new ≡ pieces_after gone id (pairs_from list) (owned_in_zone g z (zone_block g m z))
+  some_come s buffer n h kept new merged =
+      let k = length list / 2 in
+      let front = take (n + k) buffer in
+      let e : length front - k ≡ n = omega (arith, length-take-le (n + k) buffer h) in
+      let there : as_pieces (take (length front - k) front) ≡ without gone l = ap (λ (i : ℕ). as_pieces (take i front)) e ∙ ap as_pieces (take-take n (n + k) buffer (omega arith)) ∙ kept in
+      let ascends : Ascending 0 (without gone l) = asc_keep (not_of gone) 0 l (zone_ascends q.reads q.zone) in
+      rw (ne_eqb id 0 s) (merged q.ascending (subst⁻¹ (Ascending 0) there ascends) ∙ ap (put (map (own id) (pairs_from list))) there)

@@ -17,6 +17,7 @@ use Rattle.edits.specs.Judge.{Call, pairs_from, judge}
 use Rattle.edits.specs.Written.{to_block}
 use Rattle.edits.specs.Steps.{bytes_after}
 use Rattle.edits.specs.EditableMap.{EditableMap}
+use Rattle.writer.specs.declared.TheConstants.{MOST_LINES}
 use Rattle.writer.specs.Parts.{Ordered}
 use Rattle.writer.specs.Listed.{zone_drawn}
 
@@ -40,7 +41,7 @@ pub record PartAsks (m : List ℕ) (g : Geometry) (z : ℕ) (list : List ℕ) (i
   pub reads : ReadableFrom m g z
   pub zone : z < g.zones
   pub ascending : Ascending 0 (map (own id) (pairs_from list))
-  pub fits : 2048 + 3 * (length list / 2) ≤ room
+  pub fits : MOST_LINES + length list / 2 ≤ room
 
 -- and what there is after the edit can be drawn
 pub record ZoneEdit (m : List ℕ) (g : Geometry) (z gone : ℕ) (list : List ℕ) (id room : ℕ) : Type 0 where

@@ -2,3 +2,4 @@ pub mod Redraw
 pub mod Parts
 pub mod Listed
 pub mod Edited
+pub mod PartsLeft

@@ -1,5 +1,6 @@
 -- A list in object order and its parts, one for each zone (document 01, "Object order", refusal 12). Assumes nothing.
-use Rattle.std.specs.Prelude.{◌≡◌, Bool, true, cond, ◌&&◌, List, [], ◌∷◌, ◌++◌, ℕ, ◌+◌, ◌-◌, ◌%◌, ◌<◌, ◌≤◌, eqb, ltb, leb, length, get_or, take, drop}
+use Rattle.std.specs.Prelude.{◌≡◌, Bool, true, cond, ◌&&◌, List, [], ◌∷◌, ◌++◌, map, ℕ, ◌+◌, ◌-◌, ◌%◌, ◌<◌, ◌≤◌, eqb, ltb, leb, length, get_or}
+use Rattle.std.specs.List.{range_with_len}
 use Rattle.geometry.specs.declared.Geometry.{Geometry}
 use Rattle.geometry.specs.Places.{zone_of, zone_from, disc_bits}
 use Rattle.model.specs.Chain.{Pair, numbers_of}
@@ -50,26 +51,29 @@ Before high (q ∷ qs) = (q.start < high) × Before high qs
 abbrev pub zone_pairs : Geometry → ℕ → List Pair → List Pair
 zone_pairs g z qs = keep (λ q. eqb (zone_of g q.start) z) qs
 
--- the entries from `from` to `to` are the pairs of zone z, ascending
-pub record IsPart (g : Geometry) (list : List ℕ) (z from to : ℕ) : Type 0 where
-  pub ordered : from ≤ to
-  pub in_list : to ≤ length list
-  pub part : take (to - from) (drop from list) ≡ numbers_of (zone_pairs g z (pairs_from list))
+-- the part of a list that lies in zone z, and those of the zones from z on
+abbrev pub zone_part : Geometry → List ℕ → ℕ → List ℕ
+zone_part g list z = numbers_of (zone_pairs g z (pairs_from list))
+
+abbrev pub zone_parts : Geometry → List ℕ → ℕ → List (List ℕ)
+zone_parts g list z = map (zone_part g list) (range_with_len z (g.zones - z))
+
+-- a list's part in zone z: the zone's pairs, ascending
+pub record IsPart (g : Geometry) (list : List ℕ) (z : ℕ) (part : List ℕ) : Type 0 where
+  pub is : part ≡ zone_part g list z
   pub rising : Rising g (zone_from g z) (zone_pairs g z (pairs_from list))
 
--- from entry i on stand the pairs of the zones from z to `to`, ascending, and then pairs of earlier zones
-pub record PartsLeft (g : Geometry) (list : List ℕ) (z to i : ℕ) : Type 0 where
+-- what is left: the pairs of the zones from z to `to`, ascending, and then pairs of earlier zones
+pub record PairsLeft (g : Geometry) (list : List ℕ) (z to : ℕ) (rest : List ℕ) : Type 0 where
   pub left : List Pair
   pub tail : List Pair
-  pub in_list : i ≤ length list
-  pub rest : drop i list ≡ numbers_of (left ++ tail)
+  pub is : rest ≡ numbers_of (left ++ tail)
   pub rising : Rising g (zone_from g z) left
   pub before : Before (zone_from g z) tail
   pub same : (y : ℕ) → z ≤ y → y < to → zone_pairs g y (pairs_from list) ≡ zone_pairs g y left
 
--- the pass over the zones has come to zone z and entry i: first the zones before the start zone, then from entry 0 the others
-pub record PassAt (g : Geometry) (list : List ℕ) (start z i : ℕ) : Type 0 where
-  pub even : length list % 2 ≡ 0
-  pub early : z < start → PartsLeft g list z start i
-  pub at_start : PartsLeft g list start g.zones 0
-  pub late : start < z → PartsLeft g list z g.zones i
+-- the pass over the zones has come to zone z: first the zones before the start zone, then from the list's first pair on the others
+pub record PassAt (g : Geometry) (list : List ℕ) (start z : ℕ) (rest : List ℕ) : Type 0 where
+  pub early : z < start → PairsLeft g list z start rest
+  pub at_start : PairsLeft g list start g.zones list
+  pub late : start < z → PairsLeft g list z g.zones rest

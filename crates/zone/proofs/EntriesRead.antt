@@ -13,7 +13,7 @@ use Rattle.model.specs.Chain.{free, owned, Entry, entry, onward, follow}
 use Rattle.model.specs.Answer.{answered}
 use Rattle.model.specs.Check.{zone_read}
 use Rattle.model.proofs.Followed.{before_inv}
-use Rattle.zone.specs.Walk.{holder_of}
+use Rattle.fragment.specs.Reading.{holder_at}
 use Rattle.zone.specs.Lines.{entries_of, entries_in, IsRead}
 
 -- a zone that was read has the entries that the reading gives
@@ -22,7 +22,7 @@ is_read g z b es e = let k : entries_in g z b ≡ es = ap entries_of e in (k, e 
 
 -- the first entry of a chain
 pub chain_parts : (at next id len : ℕ) (fs : List Fragment) (es : List Entry) → follow at next (fragment_of id len ∷ fs) ≡ some es
-    → (gs : List Entry) × (follow (at + len) (next_after at next id) fs ≡ some gs) × (es ≡ entry at (fragment_of id len) (holder_of (eqb at next) id) ∷ gs)
+    → (gs : List Entry) × (follow (at + len) (next_after at next id) fs ≡ some gs) × (es ≡ entry at (fragment_of id len) (holder_at at next id) ∷ gs)
 chain_parts at next id len fs es e =
     by_test (eqb at next)
     (λ h. simp h (before_inv (entry at (fragment_of id len) free) (follow (at + len) (onward at id) fs) es (simp h at e)))

@@ -1,15 +1,17 @@
 -- One fragment of a zone judged, and the walker's answer. Assumes nothing.
-use Rattle.std.specs.Prelude.{Bool, cond, not, ◌&&◌, ◌||◌, List, ℕ, ◌/◌, eqb, leb}
+use Rattle.std.specs.Prelude.{Bool, not, ◌&&◌, ◌||◌, List, ℕ, ◌/◌, eqb, leb, Option, Some, None, Result, Ok, Err}
 use Rattle.geometry.specs.declared.Geometry.{Geometry}
+use Rattle.geometry.specs.declared.Refusal.{Refusal}
+use Rattle.geometry.specs.Answers.{refusal}
 use Rattle.geometry.specs.Places.{disc_bit}
 use Rattle.model.specs.Chain.{Holder, free, owned, Entry}
 use Rattle.model.specs.Answer.{Answer, refused, answered}
 use Rattle.model.specs.Check.{is_owned, holder_fits}
-use Rattle.zone.specs.declared.ZoneVerdict.{ZoneVerdict}
-use Rattle.zone.specs.declared.ZoneVerdict.TheVariants.{Kept, Broken}
 
-abbrev pub holder_of : Bool → ℕ → Holder
-holder_of on_chain id = cond on_chain free (owned id)
+-- a fragment's owner, or none of a free one
+abbrev pub holder_of : Option ℕ → Holder
+holder_of None = free
+holder_of (Some id) = owned id
 
 -- the disc-end rule of a fragment that ends at block bit `to`
 abbrev pub end_holds : Geometry → ℕ → ℕ → Holder → Bool
@@ -23,6 +25,9 @@ abbrev pub entry_holds : Geometry → ℕ → Bool → ℕ → Holder → Bool
 entry_holds g z first to h = (holder_fits g h && end_holds g z to h) && first_holds g z first h
 
 -- the walker's answer for a zone read
-abbrev pub verdict_of : Answer (List Entry) → ZoneVerdict
-verdict_of (refused n i) = Broken n
-verdict_of (answered es) = Kept
+abbrev pub Verdict : Type 0
+Verdict = Result (Unit {0}) Refusal
+
+abbrev pub verdict_of : Answer (List Entry) → Verdict
+verdict_of (refused n z) = Err (refusal n z)
+verdict_of (answered es) = Ok tt

@@ -1,16 +1,12 @@
 -- The check's refusal, or the answer on an accepted map.
 use Rattle.listing.proofs.Answers.{accepted_by}
-use Rattle.address.proofs.AddressAnswers.{check_refuses, reaches}
-use borrow.Author.Rules.{rules}
+use Rattle.address.proofs.AddressAnswers.{check_refuses}
 use Rattle.address.proofs.address.Goals as goal
 
-pub returns-in-Refused : goal.returns-in-Refused
-returns-in-Refused c =
+pub returns-in_err-g : goal.returns-in_err-g
+returns-in_err-g c =
     let a = c.args in
-    reaches a.map.now a.n a.position (check_refuses a.map.now a.n a.position c.check.ensures.answer c.in-Refused.is)
+    check_refuses a.map.now a.n a.position c.check.ensures.answer c.in_err-g.was c.from_residual.ensures
 
 pub address_in-requires : goal.address_in-requires
-address_in-requires c = accepted_by c.check.ensures.answer c.in-Accepted.is
-
-pub returns-in-Accepted : goal.returns-in-Accepted
-returns-in-Accepted c = search (rules, reaches)
+address_in-requires c = accepted_by c.check.ensures.answer c.in_ok-g.was

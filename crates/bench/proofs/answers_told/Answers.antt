@@ -7,6 +7,13 @@ use Prim.Native.Nat.{ℕ, ◌+◌, ◌*◌, ◌<◌}
 use native.Mathlib.Omega.{arith}
 use lib.ListN.{length, get_or, take, drop, length-append}
 use lib.Seq.{take_at, drop_at}
+use Rattle.std.specs.Prelude.{Result, Ok, Err}
+use Rattle.geometry.specs.declared.Geometry.{Geometry}
+use Rattle.geometry.specs.declared.Refusal.{Refusal}
+use Rattle.claim.specs.declared.Given.{Given}
+use Rattle.copies.specs.declared.Chosen.{Chosen}
+use Rattle.copies.specs.declared.Which.{Which}
+use Rattle.copies.specs.declared.Which.TheVariants.{First, Second}
 use Rattle.bits.specs.Bits.{Bytes}
 use Rattle.bits.proofs.Tests.{by_test}
 use Rattle.model.specs.Answer.{Answer, refused, answered}
@@ -15,9 +22,7 @@ use Rattle.model.specs.Check.{map_read}
 use Rattle.model.proofs.Lists.{length_numbers}
 use Rattle.model.proofs.LinesJudged.{table_answered}
 use Rattle.map.specs.Checked.{Checks, check_told, check_numbers}
-use Rattle.map.specs.declared.Checked.{Checked}
 use Rattle.listing.specs.Listed.{Lists, list_numbers, list_told, list_after}
-use Rattle.listing.specs.declared.Listed.{Listed}
 use Rattle.address.specs.Address.{address_told}
 use Rattle.sweep.specs.Sweep.{sweep_told, image_after}
 use Rattle.edits.specs.Edits.{Edit, takes, gives}
@@ -27,34 +32,28 @@ use Rattle.edits.specs.Editable.{Editable}
 use Rattle.edits.specs.Room.{In}
 use Rattle.release.specs.Released.{Releases}
 use Rattle.place.specs.Placed.{Places, place_told}
-use Rattle.place.specs.declared.Placed.{Placed}
 use Rattle.claim.specs.Claimed.{Claims, claim_told}
-use Rattle.claim.specs.declared.Claimed.{Claimed}
 use Rattle.runs.proofs.StepLaws.{release_place, given_release}
-use Rattle.copies.specs.Copies.{Copy, first, second, copy_found, part_of, same_bytes, choice_told, Chooses, copy_told, target_after, addresses_told}
+use Rattle.copies.specs.Copies.{copy_found, part_of, same_bytes, choice_numbers, choice_told, Chooses, copy_told, target_after, addresses_told}
 use Rattle.copies.proofs.SameBytes.{equal_exactly}
 use Rattle.copies.proofs.Over.{copy_by_table}
 use Rattle.mended.specs.Mended.{changed_at, positions_found}
 use Rattle.mended.proofs.InOrder.{refused_stays}
 use Rattle.mended.proofs.Positions.{positions_listed, positions_exact}
 use Rattle.mend.specs.Mends.{mend_told, Mending, positions_told, positions_after, ListsChanges}
-use Rattle.mend.specs.declared.Mended.{Mended}
-use Rattle.mend.specs.declared.Changes.{Changes}
 use Rattle.formatted.specs.Drawn.{format_found, buffer_after, length_found}
 use Rattle.formatted.proofs.MapDrawn.{formats, wanted}
 use Rattle.format.specs.Formats.{format_numbers, format_told, Formatting, length_answer, length_told, TellsLength}
-use Rattle.format.specs.declared.Formatted.{Formatted}
-use Rattle.format.specs.declared.MapLength.TheVariants as long
 use Rattle.bench.specs.Tells.{ListTells, ReleaseTells, ClaimTells, ChoiceTells, PositionsTells, FormatTells}
 use Rattle.bench.proofs.answers_told.Goals as goal
 
-listed : (found : Answer (List Pair)) (old : List ℕ) (r : Listed) (new : List ℕ) → Lists found old r new → ListTells found old r new
+listed : (found : Answer (List Pair)) (old : List ℕ) (r : Result ℕ Refusal) (new : List ℕ) → Lists found old r new → ListTells found old r new
 listed found old r new p = record {
   refused_told = λ n z e. (p.numbers ∙ ap list_told e, p.list ∙ ap (list_after old) e);
   accepted_told = λ qs e. (p.numbers ∙ ap list_told e, p.list ∙ ap (list_after old) e);
 }
 
-released : (m : List ℕ) (id : ℕ) (old : List ℕ) (r : Listed) (after new : List ℕ) → Releases m id old r after new → ReleaseTells m id old r after new
+released : (m : List ℕ) (id : ℕ) (old : List ℕ) (r : Result ℕ Refusal) (after new : List ℕ) → Releases m id old r after new → ReleaseTells m id old r after new
 released m id old r after new p =
     let l = listed (pairs_told (outcome m (release id (length old)))) old r new p.lists in
     record {
@@ -62,9 +61,9 @@ released m id old r after new p =
       accepted_told = λ qs e. l.accepted_told qs (ap pairs_told e);
     }
 
-placed_back : (m : List ℕ) → Editable m → (id : ℕ) (old : List ℕ) (r : Listed) (after new : List ℕ) → Releases m id old r after new
+placed_back : (m : List ℕ) → Editable m → (id : ℕ) (old : List ℕ) (r : Result ℕ Refusal) (after new : List ℕ) → Releases m id old r after new
     → (qs : List Pair) → outcome m (release id (length old)) ≡ answered (takes id qs)
-    → (s : Placed) (end : List ℕ) → Places after id (take (2 * length qs) new) s end → ((outcome after (place id (take (2 * length qs) new))) ≡ answered (gives id qs)) × (end ≡ m)
+    → (s : Result (Unit {0}) Refusal) (end : List ℕ) → Places after id (take (2 * length qs) new) s end → ((outcome after (place id (take (2 * length qs) new))) ≡ answered (gives id qs)) × (end ≡ m)
 placed_back m ed id old r after new p qs e s end q =
     let c = release id (length old) in
     let list : take (2 * length qs) new ≡ numbers_of qs =
@@ -75,15 +74,15 @@ placed_back m ed id old r after new p qs e s end q =
     let t = same after (take (2 * length qs) new) p.bytes list in
     (t.0, q.bytes ∙ t.1)
 
-claimed : (m : List ℕ) (size parent : ℕ) (old : List ℕ) (r : Claimed) (after new : List ℕ) → Claims m size parent old r after new → ClaimTells m size parent old r after new
+claimed : (m : List ℕ) (size parent : ℕ) (old : List ℕ) (r : Result Given Refusal) (after new : List ℕ) → Claims m size parent old r after new → ClaimTells m size parent old r after new
 claimed m size parent old r after new p = record {
   refused_told = λ n z e. (p.numbers ∙ ap claim_told e, p.list ∙ ap (λ (x : Answer Edit). list_after old (pairs_told x)) e, p.bytes ∙ ap (bytes_after m) e);
   accepted_told = λ id qs e. (p.numbers ∙ ap claim_told e, p.list ∙ ap (λ (x : Answer Edit). list_after old (pairs_told x)) e);
 }
 
-released_back : (m : List ℕ) → Editable m → (size parent : ℕ) (old : List ℕ) (r : Claimed) (after new : List ℕ) → Claims m size parent old r after new
+released_back : (m : List ℕ) → Editable m → (size parent : ℕ) (old : List ℕ) (r : Result Given Refusal) (after new : List ℕ) → Claims m size parent old r after new
     → (id : ℕ) (qs : List Pair) → outcome m (claim size parent (length old)) ≡ answered (gives id qs)
-    → (s : Listed) (end list : List ℕ) → Releases after id new s end list → (list_numbers s ≡ (0, 0, length qs)) × (list ≡ new) × (end ≡ m)
+    → (s : Result ℕ Refusal) (end list : List ℕ) → Releases after id new s end list → (list_numbers s ≡ (0, 0, length qs)) × (list ≡ new) × (end ≡ m)
 released_back m ed size parent old r after new p id qs e s end list q =
     let c = claim size parent (length old) in
     let t = (claimed m size parent old r after new p).accepted_told id qs e in
@@ -96,14 +95,14 @@ released_back m ed size parent old r after new p id qs e s end list q =
     let k : drop (2 * length qs) new ≡ drop (2 * length qs) old = ap (drop (2 * length qs)) t.1 ∙ drop_at (numbers_of qs) (drop (2 * length qs) old) (2 * length qs) (length_numbers qs) in
     (l.0, l.1 ∙ ap (λ (x : List ℕ). numbers_of qs ++ x) k ∙ sym t.1, q.bytes ∙ v.1)
 
-changed : (m old : List ℕ) (r : Changes) (new : List ℕ) → ListsChanges m old r new → PositionsTells (positions_found m (length old)) old r new
+changed : (m old : List ℕ) (r : Result ℕ Refusal) (new : List ℕ) → ListsChanges m old r new → PositionsTells (positions_found m (length old)) old r new
 changed m old r new p = record {
   refused_told = λ n z e. (p.numbers ∙ ap positions_told e, p.list ∙ ap (positions_after old) e);
   accepted_told = λ ps e. (p.numbers ∙ ap positions_told e, p.list ∙ ap (positions_after old) e);
 }
 
-listed_changed : (m old : List ℕ) (r : Changes) (new : List ℕ) → ListsChanges m old r new → (ps : List ℕ) → positions_found m (length old) ≡ answered ps
-    → (s : Mended) (after : List ℕ) → Mending m s after → Bytes m
+listed_changed : (m old : List ℕ) (r : Result ℕ Refusal) (new : List ℕ) → ListsChanges m old r new → (ps : List ℕ) → positions_found m (length old) ≡ answered ps
+    → (s : Result (Unit {0}) Refusal) (after : List ℕ) → Mending m s after → Bytes m
     → (i : ℕ) → In i (take (length ps) new) ↔ ((i < length m) × (get_or m i 0 ≡ get_or after i 0 → ⊥))
 listed_changed m old r new p ps e s after q bytes i =
     let list : take (length ps) new ≡ changed_at m =
@@ -112,25 +111,25 @@ listed_changed m old r new p ps e s after q bytes i =
     (subst⁻¹ (λ (x : List ℕ). In i (changed_at m) ↔ ((i < length m) × (get_or m i 0 ≡ get_or x i 0 → ⊥))) q.bytes (positions_exact m bytes i))
 
 -- the equality is told by itself: told numbers differ in it alone
-chosen : (a b : List ℕ) (told : ℕ × ℕ × ℕ × ℕ) (handed : List ℕ) → Chooses a b told handed → ChoiceTells a b told handed
-chosen a b told handed p =
-    let by : (f : Answer Copy) → copy_found a b ≡ f → told ≡ choice_told f (same_bytes a b) = λ f e. p.numbers ∙ ap (λ (x : Answer Copy). choice_told x (same_bytes a b)) e in
-    let back : (f : Answer Copy) → copy_found a b ≡ f → handed ≡ part_of a b f = λ f e. p.part ∙ ap (part_of a b) e in
-    let flag : told.3 ≡ cond (same_bytes a b) 1 0 = ap (λ (x : ℕ × ℕ × ℕ × ℕ). x.3) p.numbers ∙ same_flag (copy_found a b) (same_bytes a b) in
+chosen : (a b : List ℕ) (c : Chosen) → Chooses a b c → ChoiceTells a b (choice_numbers c) c.part.now
+chosen a b c p =
+    let by : (f : Answer Which) → copy_found a b ≡ f → choice_numbers c ≡ choice_told f (same_bytes a b) = λ f e. p.numbers ∙ ap (λ (x : Answer Which). choice_told x (same_bytes a b)) e in
+    let back : (f : Answer Which) → copy_found a b ≡ f → c.part.now ≡ part_of a b f = λ f e. p.part ∙ ap (part_of a b) e in
+    let flag : (choice_numbers c).3 ≡ cond (same_bytes a b) 1 0 = ap (λ (x : ℕ × ℕ × ℕ × ℕ). x.3) p.numbers ∙ same_flag (copy_found a b) (same_bytes a b) in
     record {
       refused_told = λ n z e. (by (refused n z) e ∙ ap (λ (x : ℕ). (n, z, 0, x)) (sym flag), back (refused n z) e);
-      first_told = λ e. (by (answered first) e ∙ ap (λ (x : ℕ). (0, 0, 1, x)) (sym flag), back (answered first) e);
-      second_told = λ e. (by (answered second) e ∙ ap (λ (x : ℕ). (0, 0, 2, x)) (sym flag), back (answered second) e);
+      first_told = λ e. (by (answered First) e ∙ ap (λ (x : ℕ). (0, 0, 1, x)) (sym flag), back (answered First) e);
+      second_told = λ e. (by (answered Second) e ∙ ap (λ (x : ℕ). (0, 0, 2, x)) (sym flag), back (answered Second) e);
       equal_told = λ e. flag ∙ ap (λ (t : Bool). cond t 1 0) ((equal_exactly a b).1 e);
       unequal_told = λ n. flag ∙ by_test (same_bytes a b) (λ t. absurd (n ((equal_exactly a b).0 t))) (λ t. ap (λ (t : Bool). cond t 1 0) t);
     }
   where
-    same_flag : (f : Answer Copy) (e : Bool) → (choice_told f e).3 ≡ cond e 1 0
-    same_flag (answered first) e = refl
-    same_flag (answered second) e = refl
+    same_flag : (f : Answer Which) (e : Bool) → (choice_told f e).3 ≡ cond e 1 0
+    same_flag (answered First) e = refl
+    same_flag (answered Second) e = refl
     same_flag (refused n z) e = refl
 
-drawn : (logsector capacity idlen : ℕ) (old : List ℕ) (r : Formatted) (after : List ℕ) → Formatting logsector capacity idlen old r after
+drawn : (logsector capacity idlen : ℕ) (old : List ℕ) (r : Result (Unit {0}) Refusal) (after : List ℕ) → Formatting logsector capacity idlen old r after
     → FormatTells (format_found logsector capacity idlen (length old)) old r after
 drawn logsector capacity idlen old r after p = record {
   refused_told = λ n z e. (p.numbers ∙ ap format_told e, p.bytes ∙ ap (buffer_after old) e);
@@ -138,13 +137,13 @@ drawn logsector capacity idlen old r after p = record {
 }
 
 -- a length that is told is the one that was found
-length_found_law : (found : Answer ℕ) (n : ℕ) → long.Bytes n ≡ length_answer found → found ≡ answered n
+length_found_law : (found : Answer ℕ) (n : ℕ) → Ok n ≡ length_answer found → found ≡ answered n
 length_found_law (refused k z) n e = absurd (let z : ◌≡◌ {A = ℕ} 0 1 = cc in omega arith)
 length_found_law (answered k) n e = let same : n ≡ k = cc in ap answered (sym same)
 
-length_drawn : (logsector capacity idlen n : ℕ) → TellsLength logsector capacity idlen (long.Bytes n)
-    → (old : List ℕ) → length old ≡ n → (s : Formatted) (after : List ℕ) → Formatting logsector capacity idlen old s after
-    → (q : Checked) → Checks after q → (format_numbers s ≡ (0, 0)) × (check_numbers q ≡ (0, 0))
+length_drawn : (logsector capacity idlen n : ℕ) → TellsLength logsector capacity idlen (Ok n)
+    → (old : List ℕ) → length old ≡ n → (s : Result (Unit {0}) Refusal) (after : List ℕ) → Formatting logsector capacity idlen old s after
+    → (q : Result Geometry Refusal) → Checks after q → (format_numbers s ≡ (0, 0)) × (check_numbers q ≡ (0, 0))
 length_drawn logsector capacity idlen n p old l s after f q c =
     let w = wanted logsector capacity idlen n (length_found_law (length_found logsector capacity idlen) n p.answer) in
     let d : format_found logsector capacity idlen (length old) ≡ answered w.0 = ap (format_found logsector capacity idlen) l ∙ w.1 in

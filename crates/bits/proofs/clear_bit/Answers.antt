@@ -1,8 +1,8 @@
 -- One byte is stored, whose bits are the old ones but for one (`stored_zero`).
-use Prim.Native.Nat.{◌/◌}
 use native.Mathlib.Omega.{arith}
+use borrow.Author.Rules.{rules}
 use Rattle.bits.proofs.Stored.{stored_zero}
 use Rattle.bits.proofs.clear_bit.Goals as goal
 
 pub returns : goal.returns
-returns c = let a = c.args in stored_zero a.s.now a.b (omega arith) (c.slice_known-1.given (a.b / 8)).fits
+returns c = let a = c.args in stored_zero a.s.now a.b (omega arith) (search rules)

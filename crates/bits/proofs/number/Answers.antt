@@ -1,23 +1,13 @@
 -- What the word has without the bits above the n.
 use Prim.Native.Nat.{ℕ, ◌+◌, ◌*◌, ◌/◌, ◌%◌, ◌^◌}
 use mathlib.Core.Path.{ap, ◌∙◌}
-use native.Mathlib.Nat.{mod-lt, lt_of_lt_of_le}
 use native.Mathlib.Omega.{arith}
-use lib.Pow.{pow_pos, pow_mono}
 use Rattle.bits.specs.Bits.{byte_bits}
 use Rattle.bits.proofs.Bytes.{length_byte_bits}
 use Rattle.bits.proofs.BitRuns.{value_first}
 use Rattle.bits.proofs.Words.{one_shifted}
 use borrow.Author.Rules.{rules}
 use Rattle.bits.proofs.number.Goals as goal
-
-pub nonzero_rem-result : goal.nonzero_rem-result
-nonzero_rem-result c = let n = c.args.n in rw (one_shifted n (search rules)) (pow_pos n)
-
-pub overflow_cast-result : goal.overflow_cast-result
-overflow_cast-result c =
-    let n = c.args.n in
-    rw (one_shifted n (search rules)) record { fits = lt_of_lt_of_le (mod-lt _ (pow_pos n)) (pow_mono {i = n} {j = 32} (omega arith)) }
 
 pub returns : goal.returns
 returns c =

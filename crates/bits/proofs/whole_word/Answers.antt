@@ -1,13 +1,10 @@
 -- A word of eight bytes is two of four.
-use Prim.Native.Nat.{◌+◌, ◌*◌}
-use mathlib.Core.Path.{◌≡◌}
-use native.Mathlib.Omega.{arith}
-use Rattle.bits.proofs.Words.{four_more}
-use borrow.Author.Rules.{rules}
+use Rattle.bits.proofs.Words.{words_joined}
 use Rattle.bits.proofs.whole_word.Goals as goal
 
 pub returns : goal.returns
 returns c =
-    let a = c.args in
-    let e : 8 * (a.i + 4) + 32 ≡ 8 * a.i + 64 = omega arith in
-    rw (← e) (omega (arith, four_more a.s.now a.i (8 * (a.i + 4) + 32) (search rules) (omega arith)))
+    let s = c.args.s.now in
+    let low = c.word32 in
+    let high = c.word32-2 in
+    words_joined s (λ j. (c.type_inv.s j).fits) c.args.i low.result high.result low.ensures.1 high.ensures.1 low.ensures.0 high.ensures.0

@@ -1,11 +1,15 @@
 -- Zones in which nothing is free are passed over.
-use Prim.Native.Nat.{◌-◌, ◌≤◌}
+use Prim.Native.Nat.{◌-◌}
 use mathlib.Core.Path.{◌≡◌}
-use Rattle.walk.specs.HeldBy.{held_from}
+use Rattle.map.specs.Accepted.{ReadableFrom}
+use Rattle.walk.specs.HeldBy.{held_between}
 use Rattle.chain.proofs.from_zone.Given as goal
 
-abbrev pub invariant-loop-y : goal.invariant-loop-y
-invariant-loop-y l = (l.z ≤ l.y) × (held_from l.g 0 l.map l.z (l.g.zones - l.z) ≡ held_from l.g 0 l.map l.y (l.g.zones - l.y))
+abbrev pub invariant-loop-zone : goal.invariant-loop-zone
+invariant-loop-zone l = record {
+  readable : ReadableFrom l.map l.g l.zone;
+  full : held_between l.g 0 l.map l.z l.g.zones ≡ held_between l.g 0 l.map l.zone l.g.zones;
+}
 
-abbrev pub decreases-loop-y : goal.decreases-loop-y
-decreases-loop-y l = l.zones - l.y
+abbrev pub decreases-loop-zone : goal.decreases-loop-zone
+decreases-loop-zone l = l.g.zones - l.zone

@@ -1,12 +1,13 @@
 -- From the last whole word down: k has the column sums of the words passed.
-use Prim.Native.Nat.{◌≤◌, ◌%◌}
 use mathlib.Core.Path.{◌≡◌}
-use lib.ListN.{length}
+use lib.ListN.{drop}
+use Rattle.std.specs.Slice.Iter.{chunks_exact_rest, chunks_exact_size}
+use Rattle.std.specs.Iterator.Adapters.{rev_source}
 use Rattle.checks.proofs.Sums.{Summed}
 use Rattle.checks.proofs.column_check.Given as goal
 
-abbrev pub invariant-loop-i : goal.invariant-loop-i
-invariant-loop-i l = (4 ≤ l.i) × (l.i ≤ length l.block) × (l.i % 4 ≡ 0) × Summed l.block l.i l.k
-
-abbrev pub decreases-loop-i : goal.decreases-loop-i
-decreases-loop-i l = l.i
+abbrev pub invariant-loop-word : goal.invariant-loop-word
+invariant-loop-word l = record {
+  size : chunks_exact_size (rev_source l.word-iterator) ≡ 4;
+  summed : Summed (drop 4 l.block) (chunks_exact_rest (rev_source l.word-iterator)) l.k;
+}

@@ -1,11 +1,17 @@
--- From `from` up: t is what the sum from `from` on has over that from i on.
-use Prim.Native.Nat.{◌+◌, ◌-◌, ◌*◌, ◌%◌, ◌^◌, ◌≤◌}
+-- The words passed are added up, and those still ahead are all of the others.
+use Prim.Native.Nat.{◌+◌, ◌*◌, ◌^◌, ◌≤◌}
 use mathlib.Core.Path.{◌≡◌}
-use Rattle.checks.specs.Sums.{sum_from}
+use lib.ListN.{length}
+use Rattle.std.specs.Slice.Iter.{chunks_exact_rest, chunks_exact_size}
+use Rattle.bits.specs.Bits.{Bytes}
+use Rattle.checks.specs.Words.{words_of}
+use Rattle.checks.specs.Sums.{sum_of}
 use Rattle.checks.proofs.word_sum.Given as goal
 
-abbrev pub invariant-loop-i : goal.invariant-loop-i
-invariant-loop-i l = (l.from ≤ l.i) × (l.i ≤ l.to) × ((l.to - l.i) % 4 ≡ 0) × (l.t ≤ (l.i - l.from) * 2 ^ 30) × (sum_from l.block l.from ≡ sum_from l.block l.i + l.t)
-
-abbrev pub decreases-loop-i : goal.decreases-loop-i
-decreases-loop-i l = l.to - l.i
+abbrev pub invariant-loop-word : goal.invariant-loop-word
+invariant-loop-word l = record {
+  size : chunks_exact_size l.word-iterator ≡ 4;
+  small : l.t + length (chunks_exact_rest l.word-iterator) * 2 ^ 30 ≤ length l.chunk * 2 ^ 30;
+  bytes : Bytes (chunks_exact_rest l.word-iterator);
+  sum : sum_of (words_of l.chunk) ≡ l.t + sum_of (words_of (chunks_exact_rest l.word-iterator));
+}

@@ -1,37 +1,40 @@
--- From the last whole word down: t is the sum of the words passed, but for carries.
-use Prim.Native.Nat.{ℕ, ◌+◌, ◌<◌}
-use mathlib.Core.Path.{◌≡◌, ◌∙◌}
-use lib.ListN.{get_or}
+-- A chunk more, or none left.
+use Prim.Native.Nat.{◌-◌}
+use mathlib.Core.Path.{◌≡◌}
 use native.Mathlib.Omega.{arith}
 use borrow.Author.Rules.{rules}
-use Rattle.bits.proofs.Words.{word_bytes}
-use Rattle.checks.specs.Sums.{sum_from}
-use Rattle.checks.proofs.Carries.{carry_more}
-use Rattle.checks.proofs.Totals.{word_at, check_start, check_end, check_short}
+use lib.ListN.{drop}
+use Rattle.std.specs.Slice.Iter.{chunks_rest}
+use Rattle.checks.specs.Words.{words_of}
+use Rattle.checks.specs.Sums.{sum_of}
+use Rattle.checks.proofs.Carries.{none_carried, carry_more}
+use Rattle.checks.proofs.Totals.{sum_short, chunk_turn, check_end, check_short}
 use Rattle.checks.proofs.zone_check.Goals as goal
 
-pub returns-then-i-eq0 : goal.returns-then-i-eq0
-returns-then-i-eq0 c = check_short c.args.block.now (search rules)
+pub returns-in_default : goal.returns-in_default
+returns-in_default c = check_short c.args.block.now (search rules)
 
-pub loop-i-init : goal.loop-i-init
-loop-i-init c = (search rules, search rules, search rules, search rules, check_start c.args.block.now)
+pub loop-chunk-init : goal.loop-chunk-init
+loop-chunk-init c =
+    let e : chunks_rest c.into_iter-chunk-iterator.result ≡ drop 4 c.args.block.now = search rules in
+    rw e (record { size = search rules; small = omega arith; ahead = omega arith; carried = none_carried _ _ (omega arith) })
 
-pub loop-i-preserved : goal.loop-i-preserved
-loop-i-preserved c =
-    let s = c.args.block.now in
-    let more = carry_more (sum_from s c.loop-i.i) c.loop-i.t c.word_sum.result (sum_from s (c.minus-from.result + 4)) c.loop-i.invariant.4
-    c.word_sum.ensures.0 in
-    (search rules, search rules, search rules, search rules, rw c.add_carry-t.ensures more)
-
-pub overflow_sub-first : goal.overflow_sub-first
-overflow_sub-first c =
-    omega (arith, word_bytes c.args.block.now 0 (search rules) (λ j. (c.type_inv.block j).fits))
+pub loop-chunk-preserved : goal.loop-chunk-preserved
+loop-chunk-preserved c =
+    let step = c.in-Some-chunk.ensures.steps in
+    let turn = chunk_turn (chunks_rest c.loop-chunk.chunk-iterator) c.in-Some-chunk.chunk.now (chunks_rest c.next.new.self) step.1.0 (omega arith) in
+    record {
+      size = omega arith;
+      small = omega arith;
+      ahead = omega arith;
+      carried = rw c.add_carry-t.ensures (carry_more _ _ c.word_sum.result _ c.loop-chunk.invariant.carried (omega arith));
+    }
 
 pub returns : goal.returns
 returns c =
     let s = c.args.block.now in
-    let byte : (j : ℕ) → get_or s j 0 < 256 = λ j. (c.type_inv.block j).fits in
-    let w : c.word32-word.result ≡ word_at s 0 = c.word32-word.ensures.0 ∙ word_bytes s 0 (search rules) byte in
+    let none = sum_short (chunks_rest c.loop-chunk.chunk-iterator) (omega (arith, c.in-None.ensures.steps)) in
+    let all : sum_of (words_of (drop 4 s)) - sum_of (words_of (chunks_rest c.loop-chunk.chunk-iterator)) ≡ sum_of (words_of (drop 4 s)) = omega arith in
     rw (c.fold_bytes.ensures, c.add_carry-2.ensures, c.add_carry.ensures)
-    (check_end s c.loop-i.i c.loop-i.t c.word32-word.result c.wide.result byte (search rules) (search rules) (search rules) c.loop-i.invariant.4 w
-    c.wide.ensures.0)
+    (check_end s c.in-Some.head.now c.loop-chunk.t c.from_le_bytes-first.result (λ j. (c.type_inv.block j).fits) (search rules) (omega arith)
+    (rw all at c.loop-chunk.invariant.carried) (search rules) c.from_le_bytes-first.ensures)

@@ -9,20 +9,18 @@ chosen : (c : After-choose) → let a = c.args in
 chosen c =
     record { editable = c.requires.0; some = c.requires.1; inside = c.requires.2; chooses = c.choose.ensures }
 
--- `omega` finds at s that the list's length fits
-pub overflow_mul-pairs : goal.overflow_mul-pairs
-overflow_mul-pairs c =
-    omega (arith, pairs_in_law (chosen (goal.at.overflow_mul-pairs c).After-choose) c.in-Pairs.is)
+pub returns-in_err-chosen : goal.returns-in_err-chosen
+returns-in_err-chosen c = refusal_claims (chosen (goal.at.returns-in_err-chosen c).After-choose) c.in_err-chosen.was c.from_residual.ensures
+
+pub overflow_mul-chosen : goal.overflow_mul-chosen
+overflow_mul-chosen c = record { fits = omega (arith, pairs_in_law (chosen (goal.at.overflow_mul-chosen c).After-choose) c.in_ok-chosen.was) }
 
 pub slice_bounds-give-end : goal.slice_bounds-give-end
-slice_bounds-give-end c = omega (arith, pairs_in_law (chosen (goal.at.slice_bounds-give-end c).After-choose) c.in-Pairs.is)
+slice_bounds-give-end c = omega (arith, pairs_in_law (chosen (goal.at.slice_bounds-give-end c).After-choose) c.in_ok-chosen.was)
 
 pub give-requires : goal.give-requires
-give-requires c = list_fits (chosen (goal.at.give-requires c).After-choose) c.in-Pairs.is
+give-requires c = list_fits (chosen (goal.at.give-requires c).After-choose) c.in_ok-chosen.was
 
-pub returns-in-Refused : goal.returns-in-Refused
-returns-in-Refused c = refusal_claims (chosen (goal.at.returns-in-Refused c).After-choose) c.in-Refused.is
-
-pub returns-in-Pairs : goal.returns-in-Pairs
-returns-in-Pairs c =
-    list_claims (chosen (goal.at.returns-in-Pairs c).After-choose) c.in-Pairs.is c.give.new.map c.give.ensures
+pub returns : goal.returns
+returns c =
+    list_claims (chosen (goal.at.returns c).After-choose) c.in_ok-chosen.was c.give.new.map c.give.ensures

@@ -1,42 +1,23 @@
--- A bit so far, with what the id has of the lines that remain, is the bit at the start with what it has in all zones. The measure is how many lines
--- remain.
-use mathlib.Core.Path.{refl}
+-- A bit so far, with what the id has of the lines that are left, is the bit at the start with what it has in all zones.
+use mathlib.Core.Path.{ap, ◌∙◌}
 use native.Mathlib.Omega.{arith}
+use Rattle.walk.specs.LinesLeft.{lines_left}
 use Rattle.walk.specs.HeldBy.{held_from}
-use Rattle.walk.proofs.Remains.{fewer}
 use Rattle.claim.proofs.Cleared.{none_cleared, line_cleared, all_cleared}
-use borrow.Author.Rules.{rules}
 use Rattle.claim.proofs.clear_used.Goals as goal
 
-pub loop-w-init : goal.loop-w-init
-loop-w-init c =
+pub loop-line-init : goal.loop-line-init
+loop-line-init c =
     let a = c.args in
-    (c.from_zone-w.ensures.stands, refl, none_cleared a.from a.to a.unused.now c.from_zone-w.ensures)
+    none_cleared a.g a.map.now a.from a.to a.unused.now (ap lines_left c.into_iter-line-iterator.ensures.into_iter_gives ∙ c.lines-line-items.ensures)
 
-pub next-s-requires : goal.next-s-requires
-next-s-requires c = (c.loop-w-test.true, c.loop-w.invariant.0)
-
-pub clear_id-requires : goal.clear_id-requires
-clear_id-requires c =
-    omega (arith, c.loop-w.invariant.1, c.requires.1)
-
-pub loop-w-smaller : goal.loop-w-smaller
-loop-w-smaller c =
-    fewer c.next-s.ensures c.args.g.zones (omega arith) c.loop-w-test.true
-
-pub loop-w-preserved : goal.loop-w-preserved
-loop-w-preserved c =
-    let a = c.args in (
-      c.next-s.ensures.stands,
-      search rules,
-      line_cleared a.from a.to a.unused.now c.next-s.ensures c.loop-w-test.true (λ id. held_from a.g id a.map.now 0 a.g.zones) c.loop-w.unused c.clear_id.new.unused
-          (omega (arith, c.loop-w.invariant.1, c.requires.1)) c.clear_id.ensures c.loop-w.invariant.2,
-    )
-
-pub shape_of-unused : goal.shape_of-unused
-shape_of-unused c = c.loop-w.invariant.1
+pub loop-line-preserved : goal.loop-line-preserved
+loop-line-preserved c =
+    let a = c.args in
+    line_cleared (λ id. held_from a.g id a.map.now 0 a.g.zones) a.from a.to a.unused.now c.loop-line.unused c.clear_id.new.unused c.in-Some.ensures.steps (omega arith) c.clear_id.ensures
+    c.loop-line.invariant
 
 pub returns : goal.returns
 returns c =
     let a = c.args in
-    all_cleared a.map.now a.g c.loop-w.w c.loop-w-test.false (λ id. held_from a.g id a.map.now 0 a.g.zones) a.from a.to a.unused.now c.loop-w.unused c.loop-w.invariant.2
+    all_cleared (λ id. held_from a.g id a.map.now 0 a.g.zones) a.from a.to a.unused.now c.loop-line.unused c.in-None.ensures.steps.0 c.loop-line.invariant

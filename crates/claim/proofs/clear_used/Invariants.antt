@@ -1,14 +1,8 @@
--- A bit so far, with what the id has of the lines that remain, is the bit at the start with what it has in all zones. The measure is how many lines
--- remain.
-use mathlib.Core.Path.{◌≡◌}
-use lib.ListN.{length}
-use Rattle.walk.specs.Remaining.{remaining, Stands}
+-- A bit so far, with what the id has of the lines that are left, is the bit at the start with what it has in all zones.
+use Rattle.walk.specs.LinesLeft.{lines_left}
 use Rattle.walk.specs.HeldBy.{held_from}
 use Rattle.claim.proofs.Cleared.{ClearedSoFar}
 use Rattle.claim.proofs.clear_used.Given as goal
 
-abbrev pub invariant-loop-w : goal.invariant-loop-w
-invariant-loop-w l = Stands l.map l.g l.w × (length l.unused ≡ length l.initial.unused) × ClearedSoFar (λ id. held_from l.g id l.map 0 l.g.zones) (remaining l.map l.g l.g.zones l.w) l.from l.to l.initial.unused l.unused
-
-abbrev pub decreases-loop-w : goal.decreases-loop-w
-decreases-loop-w l = length (remaining l.map l.g l.g.zones l.w)
+abbrev pub invariant-loop-line : goal.invariant-loop-line
+invariant-loop-line l = ClearedSoFar (λ id. held_from l.fn.g id l.fn.map 0 l.fn.g.zones) (lines_left l.line-iterator) l.from l.to l.initial.unused l.unused

@@ -1,41 +1,33 @@
--- The first hole among the lines that remain of the zone is the zone's. The measure is how many lines remain.
-use Prim.Native.Nat.{◌+◌}
+-- The first hole among the lines that are left is the zone's.
 use mathlib.Core.Path.{sym, ap, ◌∙◌}
-use native.Mathlib.Omega.{arith}
+use mathlib.Core.List.{List}
 use Rattle.edits.specs.Judge.{first_hole}
-use Rattle.walk.proofs.ZonesRead.{reads_from}
-use Rattle.walk.proofs.Remains.{fewer}
-use Rattle.walk.proofs.HeldLines.{held_none}
+use Rattle.walk.specs.declared.Line.{Line}
+use Rattle.walk.specs.HeldBy.{held_lines}
+use Rattle.walk.specs.LinesLeft.{lines_left}
 use Rattle.claim.specs.Hole.{hole_of}
-use Rattle.claim.proofs.HoleFound.{hole_taken, hole_passed, zone_starts}
+use Rattle.claim.proofs.HoleFound.{zone_starts, hole_taken, held_passed, short_passed}
 use Rattle.claim.proofs.first_hole.Goals as goal
+use Rattle.claim.proofs.first_hole.Goals.{else-line-eq0-via-then-line-eq0+else-need-line, else-line-eq0-via-else-line-eq0}
 
-pub from_zone-w-requires : goal.from_zone-w-requires
-from_zone-w-requires c = reads_from c.requires.0.accepted c.args.z
-
-pub loop-w-init : goal.loop-w-init
-loop-w-init c =
+pub loop-line-init : goal.loop-line-init
+loop-line-init c =
     let a = c.args in
-    (c.from_zone-w.ensures.stands, ap (first_hole a.need) (zone_starts c.requires.0 c.requires.1 c.from_zone-w.ensures))
+    zone_starts a.need c.requires.0 c.requires.1 (ap lines_left c.into_iter-line-iterator.ensures.into_iter_gives ∙ c.lines-line-items.ensures)
 
-pub next-s-requires : goal.next-s-requires
-next-s-requires c = (omega (arith, c.loop-w-test.true, c.requires.1), c.loop-w.invariant.0)
+pub returns-then-need-line : goal.returns-then-need-line
+returns-then-need-line c =
+    ap hole_of (sym (hole_taken c.args.need c.in-Some.ensures.steps c.if-line-eq0.true c.if-need-line.true) ∙ c.loop-line.invariant)
 
-pub returns-then-both : goal.returns-then-both
-returns-then-both c =
-    let a = c.args in
-    ap hole_of (sym (hole_taken a.need c.next-s.ensures (a.z + 1) (omega (arith, c.requires.1)) (omega (arith, c.loop-w-test.true)) (sym c.both.ensures ∙ c.if-both.true)) ∙ c.loop-w.invariant.1)
-
-pub loop-w-smaller : goal.loop-w-smaller
-loop-w-smaller c =
-    fewer c.next-s.ensures (c.args.z + 1) (omega (arith, c.requires.1)) (omega (arith, c.loop-w-test.true))
-
-pub loop-w-preserved : goal.loop-w-preserved
-loop-w-preserved c =
-    let a = c.args in
-    (c.next-s.ensures.stands, sym (hole_passed a.need c.next-s.ensures (a.z + 1) (omega (arith, c.requires.1)) (omega (arith, c.loop-w-test.true)) (sym c.both.ensures ∙ c.if-both.false)) ∙ c.loop-w.invariant.1)
+pub loop-line-preserved : goal.loop-line-preserved
+loop-line-preserved c =
+    let n = c.args.need in
+    let e = c.in-Some.ensures.steps in
+    elim c.else-line-eq0.branch [
+      | else-line-eq0-via-then-line-eq0+else-need-line w ↦ sym (short_passed n e w.if-need-line.false) ∙ c.loop-line.invariant
+      | else-line-eq0-via-else-line-eq0 w ↦ sym (held_passed n e w.if-line-eq0.false) ∙ c.loop-line.invariant
+    ]
 
 pub returns : goal.returns
 returns c =
-    let a = c.args in
-    ap hole_of (sym (ap (first_hole a.need) (held_none 0 a.map.now a.g (a.z + 1) c.loop-w.w (omega (arith, c.loop-w-test.false)))) ∙ c.loop-w.invariant.1)
+    ap hole_of (sym (ap (λ (ls : List Line). first_hole c.args.need (held_lines 0 ls)) c.in-None.ensures.steps.0) ∙ c.loop-line.invariant)

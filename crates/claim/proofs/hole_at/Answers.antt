@@ -1,33 +1,35 @@
 -- The hole below, or else the one above.
-use mathlib.Core.Path.{sym, ap, ◌∙◌}
-use mathlib.Core.Bool.{Bool}
-use borrow.Author.Tests.{ltb-true}
-use lib.Dec.{ltb}
-use Prim.Native.Nat.{◌+◌}
-use Rattle.bits.proofs.Tests.{both}
+use mathlib.Core.Path.{◌≡◌, sym, ap, ◌∙◌}
+use mathlib.Core.Option.{none}
 use Rattle.model.specs.Shown.{pieces_on}
-use Rattle.edits.specs.Near.{zone_if}
-use Rattle.edits.specs.Holes.{holes_of}
-use Rattle.edits.specs.Judge.{first_hole}
 use Rattle.claim.specs.Hole.{hole_of}
-use Rattle.claim.proofs.HoleFound.{no_hole, hole_at, beside_turn}
+use Rattle.claim.proofs.HoleFound.{no_hole, hole_at, below, below_there, not_below, above_there, not_above, beside_below, beside_above}
 use Rattle.claim.proofs.hole_at.Goals as goal
+use Rattle.claim.proofs.hole_at.Goals.{then-d-parent+in_default, else-d-parent}
 
-pub hole_if-requires-in-None : goal.hole_if-requires-in-None
-hole_if-requires-in-None c =
+pub returns-in-Some : goal.returns-in-Some
+returns-in-Some c =
     let a = c.args in
-    (c.requires.0, λ e. ltb-true (a.parent + a.d) a.g.zones (both (ltb 0 a.d) (ltb (a.parent + a.d) a.g.zones) (sym c.both.ensures ∙ e)).1)
+    let l = pieces_on a.g a.map.now in
+    ap hole_of (sym (beside_below a.g l a.need a.parent a.d (below_there a.g l a.need a.parent a.d c.if-d-parent.true ∙ hole_at _ c.in-Some.hole (sym c.first_hole.ensures ∙ c.in-Some.is))))
 
-pub returns-in-At : goal.returns-in-At
-returns-in-At c =
+pub returns-then-above-g : goal.returns-then-above-g
+returns-then-above-g c =
     let a = c.args in
-    let e = hole_at _ c.in-At.start c.in-At.len (sym c.hole_if.ensures ∙ c.in-At.is) in
-    ap hole_of (sym (beside_turn a.g (pieces_on a.g a.map.now) a.need a.parent a.d _ c.minus.ensures _ e))
+    let l = pieces_on a.g a.map.now in
+    let none_below : below a.g l a.need a.parent a.d ≡ none = elim c.if-d-parent.branch [
+      | then-d-parent+in_default w ↦ below_there a.g l a.need a.parent a.d w.if-d-parent.true ∙ no_hole _ (sym w.first_hole.ensures ∙ w.in_default.is)
+      | else-d-parent w ↦ not_below a.g l a.need a.parent a.d w.if-d-parent.false
+    ] in
+    c.first_hole-then-above-g.ensures
+    ∙ ap hole_of (sym (beside_above a.g l a.need a.parent a.d none_below ∙ above_there a.g l a.need a.parent a.d c.if-d-gt0.true c.if-above-g.true))
 
-pub returns-in-None : goal.returns-in-None
-returns-in-None c =
+pub returns-else-d-gt0 : goal.returns-else-d-gt0
+returns-else-d-gt0 c =
     let a = c.args in
-    let e = no_hole _ (sym c.hole_if.ensures ∙ c.in-None.is) in
-    c.hole_if-in-None.ensures
-    ∙ ap (λ (x : Bool). hole_of (first_hole a.need (holes_of a.g (pieces_on a.g a.map.now) (zone_if x (a.parent + a.d))))) c.both.ensures
-    ∙ ap hole_of (sym (beside_turn a.g (pieces_on a.g a.map.now) a.need a.parent a.d _ c.minus.ensures _ e))
+    let l = pieces_on a.g a.map.now in
+    let none_below : below a.g l a.need a.parent a.d ≡ none = elim c.if-d-parent.branch [
+      | then-d-parent+in_default w ↦ below_there a.g l a.need a.parent a.d w.if-d-parent.true ∙ no_hole _ (sym w.first_hole.ensures ∙ w.in_default.is)
+      | else-d-parent w ↦ not_below a.g l a.need a.parent a.d w.if-d-parent.false
+    ] in
+    ap hole_of (sym (beside_above a.g l a.need a.parent a.d none_below ∙ not_above a.g l a.need a.parent a.d c.else-d-gt0.either))

@@ -9,7 +9,7 @@ use Rattle.claim.proofs.list_one.Goals as goal
 pub returns-then-list-lt2 : goal.returns-then-list-lt2
 returns-then-list-lt2 c =
     let a = c.args in
-    few_entries a.list.now {n = 1} (pair a.start.0 a.len ∷ []) refl (omega arith) c.refuse.ensures
+    few_entries a.list.now {n = 1} (pair a.start.0 a.len ∷ []) refl (omega arith) c.into.ensures
 
 pub returns : goal.returns
 returns c =

@@ -9,7 +9,7 @@ count_pieces-n-requires c =
 
 pub returns-then-list-n : goal.returns-then-list-n
 returns-then-list-n c =
-    few_for_several c.requires.0 c.requires.2 c.find_threshold-t.ensures c.args.id c.requires.1 c.args.list.now c.count_pieces-n.ensures (omega (arith, c.if-list-n.true)) c.refuse.ensures
+    few_for_several c.requires.0 c.requires.2 c.find_threshold-t.ensures c.args.id c.requires.1 c.args.list.now c.count_pieces-n.ensures (omega (arith, c.if-list-n.true)) c.into.ensures
 
 pub write_pieces-at-requires : goal.write_pieces-at-requires
 write_pieces-at-requires c = (

@@ -1,4 +1,4 @@
--- The first hole of the zones that are at least as far away as d is that of all. The measure is how many distances are left.
+-- The first hole of the zones that are at least as far away as d is that of all.
 use Prim.Native.Nat.{ℕ}
 use mathlib.Core.Path.{sym, ap, ◌∙◌}
 use native.Mathlib.Omega.{arith}
@@ -16,25 +16,19 @@ loop-d-init c =
     let a = c.args in
     ap (λ (n : ℕ). first_hole a.need (holes_of a.g (pieces_on a.g a.map.now) (zones_from a.g.zones a.parent 0 n))) (sub-zero a.g.zones)
 
-pub hole_at-requires : goal.hole_at-requires
-hole_at-requires c = (c.requires.0, c.requires.1, c.loop-d-test.true)
-
-pub returns-in-At : goal.returns-in-At
-returns-in-At c =
+pub returns-in-Some : goal.returns-in-Some
+returns-in-Some c =
     let a = c.args in
-    let e = hole_at _ c.in-At.start c.in-At.len (sym c.hole_at.ensures ∙ c.in-At.is) in
+    let e = hole_at _ c.in-Some.hole (sym c.hole_at.ensures ∙ c.in-Some.is) in
     ap hole_of (sym (distance_turn a.g (pieces_on a.g a.map.now) a.need a.parent c.loop-d.d c.loop-d-test.true _ e) ∙ c.loop-d.invariant)
-
-pub loop-d-smaller : goal.loop-d-smaller
-loop-d-smaller c = omega (arith, c.loop-d-test.true)
 
 pub loop-d-preserved : goal.loop-d-preserved
 loop-d-preserved c =
     let a = c.args in
-    let e = no_hole _ (sym c.hole_at.ensures ∙ c.in-None.is) in
+    let e = no_hole _ (sym c.hole_at.ensures ∙ c.in_default.is) in
     sym (distance_turn a.g (pieces_on a.g a.map.now) a.need a.parent c.loop-d.d c.loop-d-test.true _ e) ∙ c.loop-d.invariant
 
 pub returns : goal.returns
 returns c =
     let a = c.args in
-    ap hole_of (sym (none_further a.g (pieces_on a.g a.map.now) a.need a.parent c.loop-d.d c.loop-d-test.false) ∙ c.loop-d.invariant)
+    ap hole_of (sym (none_further a.g (pieces_on a.g a.map.now) a.need a.parent c.loop-d.d (omega arith)) ∙ c.loop-d.invariant)

@@ -1,20 +1,15 @@
 -- The first if the check accepts it, else the second, else nothing.
-use Rattle.copies.proofs.Answers.{as_number, first_chosen, second_chosen, none_chosen}
+use mathlib.Core.Path.{refl}
+use Rattle.copies.proofs.Answers.{first_chosen, second_chosen, none_chosen}
 use Rattle.copies.proofs.choose.Goals as goal
+use Rattle.copies.proofs.choose.Goals.{in-Ok, in-Err+in-Ok-check, in-Err+in-Err-check}
 
-pub returns-in-Accepted : goal.returns-in-Accepted
-returns-in-Accepted c =
+pub returns : goal.returns
+returns c =
     let a = c.args in
-    first_chosen a.first.now a.second.now (as_number c.same.ensures) c.check.ensures.answer c.in-Accepted.is
-
-pub returns-in-Accepted-check : goal.returns-in-Accepted-check
-returns-in-Accepted-check c =
-    let a = c.args in
-    second_chosen a.first.now a.second.now (as_number c.same.ensures) c.check.ensures.answer c.in-Refused.is
-    c.check-in-Refused.ensures.answer c.in-Accepted-check.is
-
-pub returns-in-Refused-check : goal.returns-in-Refused-check
-returns-in-Refused-check c =
-    let a = c.args in
-    none_chosen a.first.now a.second.now (as_number c.same.ensures) c.check.ensures.answer c.in-Refused.is
-    c.check-in-Refused.ensures.answer c.in-Refused-check.is
+    elim c.match-check.branch [
+      | in-Ok w ↦ first_chosen a.first a.second c.eq.ensures c.check.ensures.answer w.in-Ok.is w.which-is
+      | in-Err+in-Ok-check w ↦ second_chosen a.first a.second c.eq.ensures c.check.ensures.answer w.in-Err.is w.check-in-Err.ensures.answer w.in-Ok-check.is w.which-is
+      | in-Err+in-Err-check w ↦
+          none_chosen a.first a.second c.eq.ensures c.check.ensures.answer w.in-Err.is w.check-in-Err.ensures.answer w.in-Err-check.is refl w.which-is
+    ]

@@ -1,20 +1,12 @@
 -- The plan's refusal, or the length of the map (`MapFormatted`).
-use mathlib.Core.Path.{refl}
-use native.Mathlib.Omega.{arith}
-use Rattle.format.proofs.MapFormatted.{length_refused, few_bytes, length_told_law}
+use Rattle.format.proofs.MapFormatted.{length_refused, disc_accepted, length_is}
 use Rattle.format.proofs.format_length.Goals as goal
 
-pub overflow_mul-result : goal.overflow_mul-result
-overflow_mul-result c =
-    let a = c.args in
-    omega (arith, few_bytes a.log2secsize a.capacity a.idlen c.plan.ensures c.in-Disc.is)
+pub returns-in_err-disc : goal.returns-in_err-disc
+returns-in_err-disc c = let a = c.args in length_refused a.log2secsize a.capacity a.idlen c.plan.ensures c.in_err-disc.was c.from_residual.ensures
 
-pub returns-in-Refused : goal.returns-in-Refused
-returns-in-Refused c =
-    let a = c.args in
-    length_refused a.log2secsize a.capacity a.idlen c.plan.ensures c.in-Refused.is
+pub map_length-requires : goal.map_length-requires
+map_length-requires c = let a = c.args in disc_accepted a.log2secsize a.capacity a.idlen c.plan.ensures c.in_ok-disc.was
 
-pub returns-in-Disc : goal.returns-in-Disc
-returns-in-Disc c =
-    let a = c.args in
-    length_told_law a.log2secsize a.capacity a.idlen c.plan.ensures c.in-Disc.is refl
+pub returns : goal.returns
+returns c = let a = c.args in length_is a.log2secsize a.capacity a.idlen c.plan.ensures c.in_ok-disc.was c.map_length.ensures.0

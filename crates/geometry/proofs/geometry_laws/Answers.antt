@@ -1,5 +1,6 @@
 -- The laws, each from the file that proves it.
 use mathlib.Core.Path.{refl}
+use Rattle.geometry.proofs.Reasons.{numbered, reasoned}
 use Rattle.geometry.proofs.Rules.{test_is_rules}
 use Rattle.geometry.proofs.Numbers.{accepted, cluster_parts, cluster_else, floppy, divisor, drives, most_zones_law, plus_discs}
 use Rattle.geometry.proofs.DiscBits.{block_of_disc, disc_of_block, zone_of_disc, on_the_map, zone_starts, zone_ends}
@@ -10,6 +11,8 @@ use Rattle.geometry.proofs.geometry_laws.Goals as goal
 pub returns : goal.returns
 returns c =
     record {
+      numbered = numbered;
+      reasoned = reasoned;
       test_is_rules = test_is_rules;
       accepted = accepted;
       block_of_disc = block_of_disc;

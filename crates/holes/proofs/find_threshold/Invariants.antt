@@ -7,11 +7,13 @@ use Rattle.holes.specs.Passes.{holes_on}
 use Rattle.holes.proofs.find_threshold.Given as goal
 
 abbrev pub invariant-loop-low : goal.invariant-loop-low
-invariant-loop-low l = (l.low < l.high)
-    × (l.high ≤ l.longest + 1)
-    × (l.need ≤ at_least l.low (holes_on l.g l.map))
-    × (l.above < l.need)
-    × (l.above ≡ at_least l.high (holes_on l.g l.map))
+invariant-loop-low l = record {
+  apart : l.low < l.high;
+  small : l.high ≤ l.longest + 1;
+  enough : l.need ≤ at_least l.low (holes_on l.g l.map);
+  too_few : l.above < l.need;
+  above : l.above ≡ at_least l.high (holes_on l.g l.map);
+}
 
 abbrev pub decreases-loop-low : goal.decreases-loop-low
 decreases-loop-low l = l.high - l.low

@@ -1,14 +1,8 @@
--- What is stored so far, with the pairs of the lines that remain stored after it, is all pairs stored. The measure is how many lines
--- remain.
-use Prim.Native.Nat.{◌-◌}
-use lib.ListN.{length}
-use Rattle.walk.specs.Remaining.{remaining, Stands}
-use Rattle.walk.specs.HeldBy.{held_lines, held_from}
+-- What is stored so far, with the pairs of the lines that are left stored after it, is all pairs stored.
+use Rattle.walk.specs.LinesLeft.{lines_left}
+use Rattle.walk.specs.HeldBy.{held_lines, held_between}
 use Rattle.listing.proofs.Stored.{StoredSoFar}
 use Rattle.listing.proofs.write_held.Given as goal
 
-abbrev pub invariant-loop-w : goal.invariant-loop-w
-invariant-loop-w l = Stands l.map l.g l.w × StoredSoFar l.initial.pairs l.pairs l.at l.i (held_from l.g l.holder l.map l.from (l.to - l.from)) (held_lines l.holder (remaining l.map l.g l.to l.w))
-
-abbrev pub decreases-loop-w : goal.decreases-loop-w
-decreases-loop-w l = length (remaining l.map l.g l.to l.w)
+abbrev pub invariant-loop-line : goal.invariant-loop-line
+invariant-loop-line l = StoredSoFar l.initial.pairs l.pairs l.fn.at l.i (held_between l.fn.g l.holder l.fn.map l.fn.from l.fn.to) (held_lines l.holder (lines_left l.line-iterator))

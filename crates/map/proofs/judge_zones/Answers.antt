@@ -1,40 +1,27 @@
--- From zone z on the answer is that of all zones. The measure is what is left of the zones.
-use mathlib.Core.Path.{sym, ◌∙◌}
+-- From zone z on the answer is that of all zones.
+use mathlib.Core.Path.{sym, ap, ◌∙◌}
+use mathlib.Core.List.{List}
+use Prim.Native.Nat.{ℕ}
+use Rattle.model.specs.Check.{zone_read}
+use Rattle.zone.specs.Walk.{verdict_of}
 use native.Mathlib.Omega.{arith}
-use Rattle.model.proofs.ByPlace.{zone_end_law, block_length}
+use Rattle.geometry.proofs.Results.{handed_on}
 use Rattle.map.proofs.ZonesJudged.{zones_turn, zones_stop, zones_end, zones_all}
-use borrow.Author.Rules.{rules}
 use Rattle.map.proofs.judge_zones.Goals as goal
 
-pub overflow_mul-a : goal.overflow_mul-a
-overflow_mul-a c = omega (arith, zone_end_law c.args.g.zones c.args.g.sector c.loop-z.z c.loop-z-test.true, c.requires.1)
-
-pub overflow_add-e : goal.overflow_add-e
-overflow_add-e c = omega (arith, zone_end_law c.args.g.zones c.args.g.sector c.loop-z.z c.loop-z-test.true, c.requires.1)
-
-pub slice_bounds-judge-end : goal.slice_bounds-judge-end
-slice_bounds-judge-end c = omega (arith, zone_end_law c.args.g.zones c.args.g.sector c.loop-z.z c.loop-z-test.true, c.requires.1)
-
-pub judge-requires : goal.judge-requires
-judge-requires c =
-    (c.requires.0, c.loop-z-test.true, block_length c.args.map.now c.args.g.zones c.args.g.sector c.requires.1 c.loop-z.z c.loop-z-test.true)
-
-pub overflow_cast-result : goal.overflow_cast-result
-overflow_cast-result c = omega (arith, c.loop-z-test.true, c.requires.0.zones_high)
-
-pub returns-in-Broken : goal.returns-in-Broken
-returns-in-Broken c =
+pub returns-in_err-judge : goal.returns-in_err-judge
+returns-in_err-judge c =
     let a = c.args in
-    let v = sym c.in-Broken.is ∙ c.judge.ensures in
-    sym (zones_stop a.map.now a.g c.loop-z.z c.in-Broken.number c.loop-z-test.true v)
-    ∙ c.loop-z.invariant.1 ∙ zones_all a.map.now a.g
+    handed_on c.from_residual.result c.from_residual.ensures
+    ∙ sym (zones_stop a.map.now a.g c.loop-z.z c.in_err-judge.field-0.0 c.loop-z-test.true (sym c.in_err-judge.was ∙ c.judge.ensures ∙ ap (λ (b : List ℕ). verdict_of (zone_read a.g c.loop-z.z b)) c.block.ensures))
+    ∙ c.loop-z.invariant ∙ zones_all a.map.now a.g
 
 pub loop-z-preserved : goal.loop-z-preserved
 loop-z-preserved c =
     let a = c.args in
-    (search rules, sym (zones_turn a.map.now a.g c.loop-z.z c.loop-z-test.true (sym c.in-Kept.is ∙ c.judge.ensures)) ∙ c.loop-z.invariant.1)
+    sym (zones_turn a.map.now a.g c.loop-z.z c.loop-z-test.true (sym c.in_ok-judge.was ∙ c.judge.ensures ∙ ap (λ (b : List ℕ). verdict_of (zone_read a.g c.loop-z.z b)) c.block.ensures)) ∙ c.loop-z.invariant
 
 pub returns : goal.returns
 returns c =
     let a = c.args in
-    sym (zones_end a.map.now a.g c.loop-z.z c.loop-z-test.false) ∙ c.loop-z.invariant.1 ∙ zones_all a.map.now a.g
+    sym (zones_end a.map.now a.g c.loop-z.z (omega arith)) ∙ c.loop-z.invariant ∙ zones_all a.map.now a.g

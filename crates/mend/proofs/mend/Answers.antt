@@ -2,14 +2,11 @@
 use Rattle.mend.proofs.Answers.{mendable_by, mend_refused, mend_done}
 use Rattle.mend.proofs.mend.Goals as goal
 
+pub returns-in_err-geometry : goal.returns-in_err-geometry
+returns-in_err-geometry c = mend_refused c.args.map.now c.check_zones.ensures c.in_err-geometry.was c.from_residual.ensures
+
 pub mend_zones-requires : goal.mend_zones-requires
-mend_zones-requires c =
-    mendable_by c.args.map.now c.check_zones.ensures c.in-Accepted.is
+mend_zones-requires c = mendable_by c.args.map.now c.check_zones.ensures c.in_ok-geometry.was
 
-pub returns-in-Refused : goal.returns-in-Refused
-returns-in-Refused c =
-    mend_refused c.args.map.now c.check_zones.ensures c.in-Refused.is
-
-pub returns-in-Accepted : goal.returns-in-Accepted
-returns-in-Accepted c =
-    mend_done c.args.map.now c.check_zones.ensures c.in-Accepted.is c.mend_zones.ensures
+pub returns : goal.returns
+returns c = mend_done c.args.map.now c.check_zones.ensures c.in_ok-geometry.was c.mend_zones.ensures

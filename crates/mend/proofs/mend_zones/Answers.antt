@@ -1,7 +1,6 @@
--- The zones below z are mended (`ZonesInTurn`). The measure is what is left of the zones.
+-- The zones below z are mended (`ZonesInTurn`).
 use mathlib.Core.Path.{◌∙◌}
 use native.Mathlib.Omega.{arith}
-use Rattle.bits.proofs.Bytes.{all_bytes}
 use Rattle.edits.proofs.WrittenBelow.{written_starts}
 use Rattle.mended.specs.Mended.{mended}
 use Rattle.mend.proofs.ZonesInTurn.{next_mend, mending_turn, mending_ends}
@@ -15,14 +14,14 @@ loop-z-init c =
 
 pub mend_zone-requires : goal.mend_zone-requires
 mend_zone-requires c =
-    next_mend c.requires (all_bytes c.args.map.now (λ j. (c.slice_known-1.given j).fits)) c.loop-z.invariant.1 c.loop-z-test.true (omega (arith, c.loop-z.invariant.0))
+    next_mend c.requires c.cross_lack-lack.ensures.bytes c.loop-z.invariant.1 c.loop-z-test.true (omega (arith, c.loop-z.invariant.0))
 
 pub loop-z-preserved : goal.loop-z-preserved
 loop-z-preserved c = (
   c.mend_zone.auto.pieces ∙ c.loop-z.invariant.0,
-  mending_turn c.requires (all_bytes c.args.map.now (λ j. (c.slice_known-1.given j).fits)) c.loop-z.invariant.1 c.loop-z-test.true c.cross_lack-lack.ensures c.change_of.ensures c.mend_zone.ensures,
+  mending_turn c.requires c.cross_lack-lack.ensures.bytes c.loop-z.invariant.1 c.loop-z-test.true c.cross_lack-lack.ensures.lack c.change_of.ensures c.mend_zone.ensures,
 )
 
 pub returns : goal.returns
 returns c =
-    mending_ends c.requires (all_bytes c.args.map.now (λ j. (c.slice_known-1.given j).fits)) c.loop-z.invariant.1 c.loop-z-test.false
+    mending_ends c.requires c.cross_lack-lack.ensures.bytes c.loop-z.invariant.1 (omega arith)

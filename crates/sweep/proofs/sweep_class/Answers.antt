@@ -1,16 +1,12 @@
 -- The answers of `SweepAnswers` for a holder: 16, and the count.
-use Rattle.sweep.proofs.SweepAnswers.{past_disc, not_past, held_swept}
+use Rattle.sweep.proofs.SweepAnswers.{past_disc, held_swept}
 use Rattle.sweep.proofs.sweep_class.Goals as goal
 
-pub returns-then-ends_past : goal.returns-then-ends_past
-returns-then-ends_past c =
-    past_disc c.requires c.args.holder c.args.first c.args.fill c.args.image.now c.ends_past.ensures c.if-ends_past.true c.refuse.ensures
+pub returns-then-not-lies_on : goal.returns-then-not-lies_on
+returns-then-not-lies_on c = past_disc c.requires c.args.holder c.lies_on.ensures c.if-not-lies_on.true c.into.ensures
 
-pub sweep_held-requires : goal.sweep_held-requires
-sweep_held-requires c =
-    (c.requires, not_past c.requires c.args.holder c.args.first c.args.fill c.args.image.now c.ends_past.ensures c.if-ends_past.false)
+pub returns-then-holder-eq0 : goal.returns-then-holder-eq0
+returns-then-holder-eq0 c = rw c.if-holder-eq0.true (held_swept c.requires 0 c.lies_on.ensures c.if-not-lies_on.false c.sweep_chains-count.ensures)
 
-pub returns : goal.returns
-returns c =
-    held_swept c.requires c.args.holder c.args.first c.args.fill c.args.image.now c.ends_past.ensures c.if-ends_past.false
-    c.sweep_held.ensures
+pub returns-else-holder-eq0 : goal.returns-else-holder-eq0
+returns-else-holder-eq0 c = held_swept c.requires c.args.holder c.lies_on.ensures c.if-not-lies_on.false c.sweep_all-count.ensures

@@ -1,16 +1,9 @@
 -- The header stored byte by byte is the sealed one (`Sealed`).
-use native.Mathlib.Omega.{arith}
-use lib.ListN.{length-set}
+use mathlib.Core.Path.{◌∙◌}
 use Rattle.writer.proofs.Sealed.{seal_is}
-use borrow.Author.Rules.{rules}
 use Rattle.writer.proofs.seal.Goals as goal
-
-pub bounds-block-2 : goal.bounds-block-2
-bounds-block-2 c = simp length-set (omega arith)
-
-pub bounds-block-0 : goal.bounds-block-0
-bounds-block-0 c = simp length-set (omega arith)
 
 pub returns : goal.returns
 returns c =
-    seal_is c.args.block.now c.minus-link.result c.args.change c.args.first.0 c.zone_check-check.result (search rules) c.minus-link.ensures c.zone_check-check.ensures
+    let a = c.args in
+    seal_is a.block.now c.copy_from_slice.new.self a.change a.first.0 c.saturating_sub.result c.zone_check.result c.requires.0 c.requires.1 c.saturating_sub.ensures (c.copy_from_slice.ensures.after ∙ c.to_le_bytes.ensures) c.zone_check.ensures

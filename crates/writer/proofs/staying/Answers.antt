@@ -1,39 +1,59 @@
--- What is stored, and what the lines that remain add to it, is all that stays (`StayingPieces`). The measure is how many lines remain.
-use Prim.Native.Nat.{◌+◌}
+-- The lines that the filter lets through are those that stay (`StayingPieces`).
+use mathlib.Core.Path.{◌≡◌, refl, sym, ap, ◌∙◌}
+use mathlib.Core.List.{List, map, map-id}
+use Prim.Native.Nat.{◌+◌, ◌-◌, ◌<◌}
 use native.Mathlib.Omega.{arith}
-use Rattle.walk.proofs.Remains.{none_remain, fewer}
-use Rattle.writer.proofs.StayingPieces.{line_room, stay_turn, lines_few, stay_starts, stay_ends}
+use lib.ListN.{length}
+use borrow.Author.Tests.{tests}
+use Rattle.std.specs.List.{filter}
+use Rattle.std.proofs.Common.{rules}
+use Rattle.std.proofs.lemmas.List.{length_push}
+use Rattle.std.proofs.lemmas.Iterator.Consumers.{YieldsList-from_first, YieldsList-from_filter, YieldsList-at, YieldsList-turn, YieldsList-end}
+use Rattle.walk.specs.LinesLeft.{lines_left}
+use Rattle.walk.specs.Remaining.{lines_from}
+use Rattle.writer.specs.Listed.{as_pieces}
+use Rattle.writer.proofs.StayingPieces.{stays, piece_of, stored_more, few_stay, all_stored}
 use Rattle.writer.proofs.staying.Goals as goal
+use Rattle.writer.proofs.staying.Goals.{In-Some, In-None}
 
-pub loop-w-init : goal.loop-w-init
-loop-w-init c =
-    (c.from_zone-w.ensures.stands, stay_starts c.requires.0 c.requires.1 c.args.gone c.args.buffer.now c.from_zone-w.ensures)
+room : (c : In-Some) → c.loop-line.n < 682
+room c =
+    let few = YieldsList-turn
+    (YieldsList-at c.into_iter-line-iterator.ensures.into_iter_gives
+    (YieldsList-from_filter _ (stays c.args.gone) (YieldsList-from_first (λ x. x) lines_left _ refl) c.filter-line-items.ensures.closure (λ x b q k. search (rules, tests))))
+    c.loop-line.yielded _ c.loop-line.yielded_by _ _ c.in-Some.line c.in-Some.is c.next.ensures.steps in
+    omega (arith, few.0, c.loop-line.invariant.count, few_stay c.requires.0 c.requires.1 (ap lines_left c.filter-line-items.ensures.source ∙ c.lines.ensures) c.args.gone)
 
-pub next-s-requires : goal.next-s-requires
-next-s-requires c =
-    (omega (arith, c.loop-w-test.true, c.requires.1), c.loop-w.invariant.0)
-
-pub put_piece-requires : goal.put_piece-requires
-put_piece-requires c =
-    line_room c.loop-w.invariant.1 (c.next-s.ensures.passed (c.args.z + 1) (omega (arith, c.requires.1)) (omega (arith, c.loop-w-test.true))) (lines_few c.requires.0 c.requires.1) c.requires.2
+pub bounds-buffer-n : goal.bounds-buffer-n
+bounds-buffer-n c = omega (arith, room (goal.at.bounds-buffer-n c).In-Some, c.requires.2)
 
 pub overflow_add-n : goal.overflow_add-n
-overflow_add-n c =
-    omega (arith, c.loop-w.invariant.1.few, lines_few c.requires.0 c.requires.1, c.one.ensures.1)
+overflow_add-n c = omega (arith, room (goal.at.overflow_add-n c).In-Some)
 
-pub loop-w-smaller : goal.loop-w-smaller
-loop-w-smaller c =
-    fewer c.next-s.ensures (c.args.z + 1) (omega (arith, c.requires.1)) (omega (arith, c.loop-w-test.true))
+pub loop-line-preserved : goal.loop-line-preserved
+loop-line-preserved c = record {
+  count = omega (arith, length_push c.loop-line.yielded c.in-Some.line, c.loop-line.invariant.count);
+  stored = stored_more c.loop-line.buffer c.loop-line.n c.loop-line.yielded c.in-Some.line (omega (arith, room (goal.at.loop-line-preserved c).In-Some, c.requires.2)) c.loop-line.invariant.stored;
+}
 
-pub loop-w-preserved : goal.loop-w-preserved
-loop-w-preserved c =
-    let e = c.next-s.ensures.passed (c.args.z + 1) (omega (arith, c.requires.1)) (omega (arith, c.loop-w-test.true)) in
-    (c.next-s.ensures.stands, stay_turn c.loop-w.invariant.1 e (line_room c.loop-w.invariant.1 e (lines_few c.requires.0 c.requires.1) c.requires.2) c.both.ensures c.one.ensures.0 c.put_piece.ensures)
+-- in the end these are all
+all : (c : In-None) → c.loop-line.yielded ≡ filter (stays c.args.gone) (lines_left c.filter-line-items.result.iter)
+all c =
+    let end = YieldsList-end
+    (YieldsList-at c.into_iter-line-iterator.ensures.into_iter_gives
+    (YieldsList-from_filter _ (stays c.args.gone) (YieldsList-from_first (λ x. x) lines_left _ refl) c.filter-line-items.ensures.closure (λ x b q k. search (rules, tests))))
+    c.loop-line.yielded _ c.loop-line.yielded_by _ _ c.in-None.is c.next.ensures.steps in
+    sym (map-id c.loop-line.yielded) ∙ end.0
 
-pub shape_of-buffer : goal.shape_of-buffer
-shape_of-buffer c = c.loop-w.invariant.1.long
+left : (c : In-None) → let a = c.args in lines_left c.filter-line-items.result.iter ≡ lines_from a.g a.map.now a.z (a.z + 1 - a.z)
+left c = ap lines_left c.filter-line-items.ensures.source ∙ c.lines.ensures
 
-pub returns : goal.returns
-returns c =
-    let a = c.args in
-    stay_ends c.requires.0 c.requires.1 c.loop-w.invariant.1 (none_remain a.map.now a.g (a.z + 1) c.loop-w.w (omega (arith, c.loop-w-test.false)))
+pub returns-clause-few : goal.returns-clause-few
+returns-clause-few c =
+    let at = (goal.at.returns-clause-few c).In-None in
+    omega (arith, c.loop-line.invariant.count, ap length (all at), few_stay c.requires.0 c.requires.1 (left at) c.args.gone)
+
+pub returns-clause-pieces : goal.returns-clause-pieces
+returns-clause-pieces c =
+    let at = (goal.at.returns-clause-pieces c).In-None in
+    ap as_pieces c.loop-line.invariant.stored ∙ ap (λ ls. as_pieces (map piece_of ls)) (all at) ∙ all_stored c.requires.0 c.requires.1 (left at) c.args.gone

@@ -1,31 +1,24 @@
--- The zones below z are counted. The measure is what is left of the zones.
-use mathlib.Core.Path.{◌≡◌, refl, ap, ◌∙◌}
-use Prim.Native.Nat.{ℕ}
+-- As many parts have pairs as zones are touched (`PartPairs`).
+use mathlib.Core.Path.{refl, ap, ◌∙◌}
+use mathlib.Core.Logic.{inl}
 use native.Mathlib.Omega.{arith}
-use Rattle.checks.specs.Cross.{touched_count}
-use Rattle.edits.specs.Edits.{touched_from}
-use Rattle.edits.specs.Judge.{pairs_from}
-use Rattle.writer.proofs.PartPairs.{part_touches, count_turn}
+use lib.ListN.{length}
+use borrow.Author.Tests.{tests}
+use Rattle.std.specs.List.{filter}
+use Rattle.std.proofs.Common.{rules}
+use Rattle.std.proofs.lemmas.Iterator.Consumers.{YieldsList-from_first, YieldsList-from_filter, count_from_yields_List}
+use Rattle.writer.specs.PartsLeft.{parts_left}
+use Rattle.writer.proofs.PartPairs.{some_in, all_parts_touched, length_parts}
 use Rattle.writer.proofs.touched_zones.Goals as goal
 
-pub loop-z-init : goal.loop-z-init
-loop-z-init c = (omega arith, omega arith, refl, c.first_part-part.ensures)
-
-pub next_part-part-requires : goal.next_part-part-requires
-next_part-part-requires c =
-    (c.requires.0, c.loop-z-test.true, c.loop-z.invariant.3)
-
-pub loop-z-preserved : goal.loop-z-preserved
-loop-z-preserved c =
-    let a = c.args in (
-      omega (arith, c.loop-z-test.true),
-      omega (arith, c.loop-z.invariant.1, c.one.ensures.1),
-      count_turn a.g (pairs_from a.list.now) c.loop-z.z c.loop-z.n c.one.result _ c.loop-z.invariant.2 (part_touches c.next_part-part.ensures.0) c.one.ensures.0,
-      c.next_part-part.ensures.1,
-    )
+pub count-requires-clause-fits : goal.count-requires-clause-fits
+count-requires-clause-fits c =
+    let a = c.args in
+    inl (omega (arith, ap length (ap parts_left c.filter.ensures.source ∙ c.parts.ensures), length_parts a.g a.list.now, c.requires.0.zones_high))
 
 pub returns : goal.returns
 returns c =
     let a = c.args in
-    let e : c.loop-z.z ≡ a.g.zones = omega (arith, c.loop-z.invariant.0, c.loop-z-test.false) in
-    c.loop-z.invariant.2 ∙ ap (λ (z : ℕ). touched_count (touched_from a.g (pairs_from a.list.now) 0 z)) e
+    count_from_yields_List c.filter.result _ c.count.ensures.ran
+    (YieldsList-from_filter _ some_in (YieldsList-from_first (λ x. x.now) parts_left _ refl) c.filter.ensures.closure (λ x b q k. search (rules, tests)))
+    ∙ ap (λ ps. length (filter some_in ps)) (ap parts_left c.filter.ensures.source ∙ c.parts.ensures) ∙ all_parts_touched a.g a.list.now

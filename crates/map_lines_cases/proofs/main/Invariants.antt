@@ -1,9 +1,0 @@
--- At most 256 maps.
-use Rattle.std.proofs.Common.{◌-◌, ◌≤◌}
-use Rattle.map_lines_cases.proofs.main.Given as goal
-
-abbrev pub invariant-loop-k : goal.invariant-loop-k
-invariant-loop-k l = l.k ≤ 256
-
-abbrev pub decreases-loop-k : goal.decreases-loop-k
-decreases-loop-k l = 256 - l.k

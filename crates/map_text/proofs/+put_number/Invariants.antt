@@ -1,5 +1,0 @@
-use Rattle.map_text.proofs.+put_number.Given as goal
-
--- the number
-abbrev pub decreases-put_number : goal.decreases-put_number
-decreases-put_number l = l.x

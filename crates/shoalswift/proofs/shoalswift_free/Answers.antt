@@ -1,8 +1,0 @@
--- The call's answer, as numbers.
-use mathlib.Core.Path.{◌∙◌}
-use Rattle.shoalswift.proofs.shoalswift_free.Goals as goal
-
-pub returns : goal.returns
-returns c =
-    let e = c.free-r.ensures in
-    record { numbers = c.pairs_told.ensures ∙ e.numbers; list = e.list }
