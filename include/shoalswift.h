@@ -34,14 +34,14 @@
  *  shoalswift_check            1024
  *  shoalswift_geometry         1024
  *  shoalswift_list             1536
- *  shoalswift_free             1536
- *  shoalswift_address          1536
- *  shoalswift_sweep_object     1536
- *  shoalswift_sweep_free       1536
+ *  shoalswift_free             1024
+ *  shoalswift_address          1024
+ *  shoalswift_sweep_object     1024
+ *  shoalswift_sweep_free       1024
  *  shoalswift_release         20480
  *  shoalswift_place           20480
  *  shoalswift_claim           20480
- *  shoalswift_choose_copy      1536
+ *  shoalswift_choose_copy      1024
  *  shoalswift_copy_over        1024
  *  shoalswift_copy_addresses   1024
  *  shoalswift_mend            12288

@@ -1,21 +1,18 @@
 -- The answers of an address, case by case: the check's refusal, 8, 10, 16, and where the byte lies. An object's pieces are those
--- from its start zone on and then those before it, and all of them have less than 2^64 bytes.
+-- from its start zone on and then those before it, and all of them have less than 2^42 bytes.
 use mathlib.Core.Path.{◌≡◌, refl, sym, ap, ◌∙◌, subst⁻¹}
 use mathlib.Core.List.{List, [], ◌∷◌, ◌++◌}
 use Prim.Native.Nat.{ℕ, ◌+◌, ◌-◌, ◌*◌, ◌/◌, ◌<◌, ◌≤◌}
 use native.Mathlib.Nat.{mul-le-mul}
 use native.Mathlib.Omega.{arith}
 use borrow.Author.Tests.{lt-ltb, le-ltb, eq-eqb, ne_eqb}
-use Rattle.std.specs.Prelude.{Option, Some, None, Result, Ok, Err}
-use Rattle.std.specs.Option.{SomeIff, ok_or}
+use Rattle.std.specs.Prelude.{Result, Err}
 use Rattle.std.specs.Result.{IsErr, IsErrAnd}
 use Rattle.geometry.specs.declared.Geometry.{Geometry}
 use Rattle.geometry.specs.declared.Refusal.{Refusal}
-use Rattle.geometry.specs.declared.Reason.{Reason}
-use Rattle.geometry.specs.declared.Reason.TheVariants.{PastEnd}
 use Rattle.geometry.specs.Record.{geometry_of}
 use Rattle.geometry.specs.Places.{disc_bits}
-use Rattle.geometry.specs.Answers.{number, refusal, without_zone, start_of}
+use Rattle.geometry.specs.Answers.{number, refusal, start_of}
 use Rattle.geometry.proofs.DiscBits.{disc_bits_small}
 use Rattle.geometry.proofs.Reasons.{same_refusal}
 use Rattle.geometry.proofs.Results.{handed_on}
@@ -92,16 +89,6 @@ module _ {m : List ℕ} {g : Geometry} (a : AcceptedMap m g) (n position : ℕ) 
         let k = no_id g 2 (n / 256) _ e in
         handed_reaches m n position 8 0 (location_read_law ∙ rw (ne_eqb g.version 1 v, lt-ltb n 16777216 low) k.0) k.1 h
 
--- the sum of two numbers, where it is told
-no_sum : (o : Option ℕ) (P : Type 0) (v : ℕ) {e : Reason} → SomeIff o P v → ok_or o PastEnd ≡ Err e → (P → ⊥) × (e ≡ PastEnd)
-no_sum None P v h k = (h, cc)
-no_sum (Some x) P v h k = absurd (cc)
-
-the_sum : (o : Option ℕ) (P : Type 0) (v : ℕ) {b : ℕ} → SomeIff o P v → ok_or o PastEnd ≡ Ok b → b ≡ v
-the_sum None P v h k = absurd (cc)
-the_sum (Some x) P v {b} h k = let e : x ≡ b = cc in sym e ∙ h.1
-
--- a number that is a file's
 module _ {m : List ℕ} {g : Geometry} (n position : ℕ) {s count : ℕ} (o : Object m g 2 (n / 256) s count) (v : g.version ≡ 1 → ⊥) (low : n < 16777216) where
   abbrev byte : List Pair → Answer Location
   byte qs = within (locate g.unit qs (start_offset g n + position))
@@ -116,22 +103,20 @@ module _ {m : List ℕ} {g : Geometry} (n position : ℕ) {s count : ℕ} (o : O
     object_there =
         location_read_law o.accepted n position ∙ rw (ne_eqb g.version 1 v, lt-ltb n 16777216 low) (some_pieces o byte some)
 
-    -- 16, and where it lies
-    module _ {offset : ℕ} (offset_is : offset ≡ start_offset g n) (sum : Option ℕ) (sum_is : SomeIff sum (position + offset < 18446744073709551616) (position + offset)) where
-      pub past_object : {e : Reason} → ok_or sum PastEnd ≡ Err e → {q : Result Location Refusal} → IsErr q × IsErrAnd q (λ y. y ≡ without_zone e) → Reaches m n position q
-      past_object k h =
-          let none = no_sum sum _ _ sum_is k in
-          let late : List Pair = held_from g (n / 256) m s (g.zones - s) in
-          let early : List Pair = held_from g (n / 256) m 0 s in
-          let all : List Pair = held_from g (n / 256) m 0 g.zones in
-          let ok = o.accepted.readable.numbers in
-          let t : total_length (late ++ early) ≤ 534773760 =
-          omega (arith, total_append late early, ap total_length (all_held o) ∙ total_append early late, total_apart 0 (disc_bits g) all (map_apart o.accepted (n / 256)), disc_bits_small g ok) in
-          let l : total_length (late ++ early) * g.unit ≤ start_offset g n + position = omega (arith, mul-le-mul t ok.unit_high, none.0) in
-          handed_reaches m n position 16 0 (object_there ∙ ap within (locate_past g.unit (late ++ early) (start_offset g n + position) l)) (ap without_zone none.1) h
+    -- 16
+    pub past_object : 4398046511104 ≤ position → {r : Refusal} → r ≡ refusal 16 0 → Reaches m n position (Err r)
+    past_object h er =
+        let late : List Pair = held_from g (n / 256) m s (g.zones - s) in
+        let early : List Pair = held_from g (n / 256) m 0 s in
+        let all : List Pair = held_from g (n / 256) m 0 g.zones in
+        let ok = o.accepted.readable.numbers in
+        let t : total_length (late ++ early) ≤ 534773760 =
+        omega (arith, total_append late early, ap total_length (all_held o) ∙ total_append early late, total_apart 0 (disc_bits g) all (map_apart o.accepted (n / 256)), disc_bits_small g ok) in
+        let l : total_length (late ++ early) * g.unit ≤ start_offset g n + position = omega (arith, mul-le-mul t ok.unit_high) in
+        refusal_reaches m n position 16 0 (object_there ∙ ap within (locate_past g.unit (late ++ early) (start_offset g n + position) l)) er
 
-      pub object_sought : {b : ℕ} → ok_or sum PastEnd ≡ Ok b → {q : Result Location Refusal}
-          → q ≡ address_answer (within (locate g.unit (held_in_order g (n / 256) m s) b)) → Reaches m n position q
-      object_sought {b} k eq =
-          let e : b ≡ start_offset g n + position = omega (arith, the_sum sum _ _ sum_is k) in
-          reaches m n position (eq ∙ ap (λ (x : ℕ). address_answer (within (locate g.unit (held_in_order g (n / 256) m s) x))) e ∙ ap address_answer (sym object_there))
+    -- where it lies
+    pub object_sought : {offset : ℕ} → offset ≡ start_offset g n → {q : Result Location Refusal}
+        → q ≡ address_answer (within (locate g.unit (held_in_order g (n / 256) m s) (offset + position))) → Reaches m n position q
+    object_sought e eq =
+        reaches m n position (eq ∙ ap (λ (x : ℕ). address_answer (within (locate g.unit (held_in_order g (n / 256) m s) (x + position)))) e ∙ ap address_answer (sym object_there))

@@ -1,7 +1,7 @@
 // The disc address of a byte of a file, and how far may be read from there (document 01, "The calls"; document 02, R-11).
 #![tactic(auto)]
 
-ghost use Rattle.std.specs.Prelude.{◌≡◌, ◌*◌, ◌≤◌};
+ghost use Rattle.std.specs.Prelude.{◌≡◌, ◌*◌, ◌<◌, ◌≤◌};
 ghost use Rattle.geometry.specs.Accepted.{AcceptedGeometry};
 ghost use Rattle.map.specs.Accepted.{AcceptedMap};
 ghost use Rattle.walk.specs.HeldBy.{held_in_order};
@@ -15,6 +15,9 @@ const PLUS: usize = 1;
 
 // So many internal numbers there are: they have 24 bits.
 const NUMBERS: u32 = 1 << 24;
+
+// No object is as long as 2^42 bytes: from there on a position is refused without a search. Below it, offset and position make no sum that wraps.
+const LONGEST: u64 = 1 << 42;
 
 // Where a byte of an object lies on the disc, and how many bytes there are from it to its piece's end, itself included: they lie
 // at `address` and straight after it, and the object's next byte is in another piece, even one that touches.
@@ -45,22 +48,22 @@ fn address_in(map: &[u8], g: Geometry, n: u32, position: u64) -> Result<Location
     if listing::count_held(map, g, id) == 0 {
         return Err(Reason::IdAbsent.into());
     }
-    // A sum that wraps lies past every object's end.
-    let byte = (position as usize)
-        .checked_add(start_offset(g, n))
-        .ok_or(Reason::PastEnd)?;
-    locate(map, g, id, start, byte)
+    if position >= LONGEST {
+        return Err(Reason::PastEnd.into());
+    }
+    locate(map, g, id, start, start_offset(g, n) + position as usize)
 }
 
 // The start offset of an internal number.
 fn start_offset(g: Geometry, n: u32) -> usize
     requires { AcceptedGeometry g }
-    ensures { result ≡ start_offset g n }
+    ensures { (result ≡ start_offset g n) × (result < 262144) }
 {
     (n as usize % 256).saturating_sub(1) * g.sector
 }
 
 // Byte i of an object, whose pieces are those from its start zone on and then those of the zones before it.
+#[inline(never)]
 fn locate(map: &[u8], g: Geometry, id: u32, start: usize, i: usize) -> Result<Location, Refusal>
     requires { AcceptedMap map.now g × (start ≤ g.zones) }
     ensures { result ≡ address_answer (within (locate g.unit (held_in_order g id map.now start) i)) }

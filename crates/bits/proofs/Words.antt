@@ -10,14 +10,14 @@ use lib.Dec.{lit<, ltb}
 use lib.Pow.{shl_exact}
 use lib.Count.{count_trailing_zeros}
 use lib.ListN.{length, get_or, take, drop, length-take, length-drop}
-use lib.Seq.{slice, length-slice, take_at, take-append-add, drop-append-add}
+use lib.Seq.{slice, length-slice, take_all, take_at, take-append-add, drop-append-add}
 use borrow.Author.Tests.{ltb-true, ltb-false}
 use Rattle.std.proofs.lemmas.List.{drop_all, get_or_past}
 use Rattle.bits.specs.Bits.{number_bits, value, byte_bits, zeros}
 use Rattle.bits.proofs.Tests.{by_test}
 use Rattle.bits.proofs.Digits.{length_number, value_bits}
 use Rattle.bits.proofs.Bytes.{length_byte_bits}
-use Rattle.bits.proofs.BitRuns.{value_end, slice_first, value_parts, value_from, trailing_zeros, zeros_of_zero, zeros_found, zeros_passed}
+use Rattle.bits.proofs.BitRuns.{value_end, slice_first, value_parts, value_from, some_one, trailing_zeros, zeros_of_zero, zeros_found, zeros_passed}
 
 slice_after : (p q : List Bool) (f t : ℕ) → slice (length p + f) (length p + t) (p ++ q) ≡ slice f t q
 slice_after p q f t = ap (drop (length p + f)) (take-append-add p q t) ∙ drop-append-add p (take t q) f
@@ -80,6 +80,12 @@ module _ (s : List ℕ) (bytes : (j : ℕ) → get_or s j 0 < 256) (i : ℕ) whe
       let j : bit_or low (high * 2 ^ 32) ≡ high * 2 ^ 32 + low = or_comm low (high * 2 ^ 32) ∙ or_shifted high 32 low l in
       rw (m, j) (omega (arith, word_bytes, four_next (8 * i + 64) (omega arith), rw g at f))
 
+-- past the last byte there are no bits
+pub none_past_end : (s : List ℕ) (f t : ℕ) → 8 * length s ≤ t → slice f t (byte_bits s) ≡ slice f (8 * length s) (byte_bits s)
+none_past_end s f t h =
+    let B = byte_bits s in
+    ap (drop f) (take_all t B (omega (arith, length_byte_bits s)) ∙ sym (take_all (8 * length s) B (omega (arith, length_byte_bits s))))
+
 -- the n-th word after bit j, which begins a byte: a word of zeros, passed
 pub zero_word : (s : List ℕ) (j n end : ℕ) → j % 8 ≡ 0 → j + 64 * (n + 1) ≤ end → end ≤ length s * 8
     → value (slice (8 * (j / 8 + 8 * n)) (8 * (j / 8 + 8 * n) + 64) (byte_bits s)) ≡ 0
@@ -124,6 +130,14 @@ module _ (s : List ℕ) (j w n end : ℕ) (h : j + n ≤ end) (l : end ≤ lengt
 
   pub word_passed : n ≤ count_trailing_zeros 64 w → zeros (slice j end (byte_bits s)) ≡ n + zeros (slice (j + n) end (byte_bits s))
   word_passed g = omega (arith, zeros_passed (byte_bits s) j (j + n) end (omega arith) h long (omega (arith, first_zeros)))
+
+-- a word that is not 0 has its first 1 among the bits from j on
+pub one_inside : (s : List ℕ) (j : ℕ) → (value (slice j (8 * (j / 8) + 64) (byte_bits s)) ≡ 0 → ⊥)
+    → count_trailing_zeros 64 (value (slice j (8 * (j / 8) + 64) (byte_bits s))) < 64 - j % 8
+one_inside s j some =
+    let bs = slice j (8 * (j / 8) + 64) (byte_bits s) in
+    let few : length bs ≤ 64 - j % 8 = simp (length-drop, length-take) (omega arith) in
+    omega (arith, some_one bs some, trailing_zeros 64 (length bs) bs (omega arith) (omega arith) ∙ ap zeros (take_all (length bs) bs (omega arith)))
 
 -- 1, shifted by fewer places than a word has
 pub one_shifted : (n : ℕ) → n < 64 → 1 * 2 ^ n % 2 ^ 64 ≡ 2 ^ n

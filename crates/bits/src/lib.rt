@@ -100,12 +100,14 @@ pub fn zero_run(s: &[u8], from: usize, end: usize) -> usize
 {
     let mut j = from;
     while j < end {
-        let left = word_left(j, end);
-        let zeros = word_from(s, j).trailing_zeros() as usize;
-        if zeros < left {
+        let word = word_from(s, j);
+        let zeros = word.trailing_zeros() as usize;
+        // The bits past `end` do not count, whichever word holds them.
+        let some = word != 0;
+        if some && zeros < end - j {
             return j + zeros - from;
         }
-        j = zero_words(s, j + left, end);
+        j = zero_words(s, j + word_left(j, end), end);
     }
     j - from
 }
@@ -161,22 +163,42 @@ fn whole_word(s: &[u8], i: usize) -> usize
     word32(s, i) | word32(s, i + 4) << 32
 }
 
-// The same where fewer than eight bytes are left. Few words stand so near a slice's end: out of line, this leaves the reading of a word short enough
-// to be inlined in every walk over a map. Without, a list of pieces took 1.8 times as long.
+// The same where fewer than eight bytes are left: the lowest four if there are so many, and up to three more. Few words stand so near a slice's end:
+// out of line, this leaves the reading of a word short enough to be inlined in every walk over a map. Without, a list of pieces took 1.8 times as long.
 #[cold]
 fn last_word(s: &[u8], i: usize) -> usize
     requires { (i ≤ length s.now) × (length s.now < i + 8) }
     ensures { result ≡ value (slice (8 * i) (8 * i + 64) (byte_bits s.now)) }
 {
-    last_half(s, i) | last_half(s, i + 4) << 32
+    let left = s.len() - i;
+    let high = last_bytes(s, i + left / 4 * 4);
+    if left < 4 {
+        high
+    } else {
+        word32(s, i) | high << 32
+    }
 }
 
-// The word of the four bytes from byte i on, lowest byte first. Bytes past the slice's end count as 0.
-fn last_half(s: &[u8], i: usize) -> usize
-    requires { i ≤ length s.now + 4 }
-    ensures { (result ≡ value (slice (8 * i) (8 * i + 32) (byte_bits s.now))) × (result < 2 ^ 32) }
+// The number that the bytes from byte i on spell, where fewer than four are left: the lowest two if there are so many, and one more or none.
+fn last_bytes(s: &[u8], i: usize) -> usize
+    requires { (i ≤ length s.now) × (length s.now < i + 4) }
+    ensures { (result ≡ value (slice (8 * i) (8 * length s.now) (byte_bits s.now))) × (result < 2 ^ 24) }
 {
-    u32::from_le_bytes([byte(s, i), byte(s, i + 1), byte(s, i + 2), byte(s, i + 3)]) as usize
+    let left = s.len() - i;
+    let high = last_byte(s, i + left / 2 * 2);
+    if left < 2 {
+        high
+    } else {
+        usize::from(u16::from_le_bytes([s[i], s[i + 1]])) + high * 65536
+    }
+}
+
+// The same where at most one is left.
+fn last_byte(s: &[u8], i: usize) -> usize
+    requires { (i ≤ length s.now) × (length s.now < i + 2) }
+    ensures { (result ≡ value (slice (8 * i) (8 * length s.now) (byte_bits s.now))) × (result < 256) }
+{
+    usize::from(byte(s, i))
 }
 
 // Byte i, or 0 past the slice's end.

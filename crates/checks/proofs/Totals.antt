@@ -3,10 +3,13 @@ use mathlib.Core.Path.{◌≡◌, refl, ap}
 use mathlib.Core.List.{List, [], ◌∷◌, ◌++◌}
 use Prim.Native.Nat.{ℕ, zero, suc, ◌+◌, ◌*◌, ◌^◌, ◌<◌, ◌≤◌, min}
 use native.Mathlib.Omega.{arith}
-use lib.ListN.{length, get_or, take, drop, length-append, length-drop}
-use lib.Seq.{slice, get_or-drop}
-use Rattle.std.proofs.lemmas.List.{append-nil}
+use lib.Dec.{ltb}
+use lib.ListN.{length, get_or, take, drop, length-append, length-take, length-drop}
+use lib.Seq.{slice, get_or-take, get_or-drop}
+use borrow.Author.Tests.{ltb-true, ltb-false}
+use Rattle.std.proofs.lemmas.List.{append-nil, get_or_past}
 use Rattle.bits.specs.Bits.{value, byte_bits, Bytes}
+use Rattle.bits.proofs.Tests.{by_test}
 use Rattle.bits.proofs.Words.{word_bytes}
 use Rattle.checks.specs.Words.{word, words_of, total, add_carry, fold_bytes, zone_check}
 use Rattle.checks.specs.Sums.{sum_of}
@@ -74,6 +77,17 @@ words_first (a ∷ []) first h e = absurd (omega arith)
 words_first (a ∷ b ∷ []) first h e = absurd (omega arith)
 words_first (a ∷ b ∷ c ∷ []) first h e = absurd (omega arith)
 words_first (a ∷ b ∷ c ∷ d ∷ s) first h e = rw e
+
+-- word 0 as it is read from the first four bytes
+pub first_word : (s first : List ℕ) → ((j : ℕ) → get_or s j 0 < 256) → 4 ≤ length s → first ≡ take 4 s
+    → value (slice (8 * 0) (8 * 0 + 32) (byte_bits first)) ≡ word (get_or first 0 0) (get_or first 1 0) (get_or first 2 0) (get_or first 3 0)
+first_word s first byte h f = word_bytes first bytes 0
+  where
+    bytes : (j : ℕ) → get_or first j 0 < 256
+    bytes j =
+        by_test (ltb j 4)
+        (λ k. rw (f, get_or-take 4 s j 0 (ltb-true j 4 k)) (byte j))
+        (λ k. rw (f, get_or_past (take 4 s) j 0 (omega (arith, length-take 4 s, ltb-false j 4 k))) (omega arith))
 
 pub check_end : (s first : List ℕ) (t w : ℕ) → ((j : ℕ) → get_or s j 0 < 256) → 4 ≤ length s → t < 2 ^ 44
     → Carried (sum_of (words_of (drop 4 s))) t → first ≡ take 4 s → w ≡ word 0 (get_or first 1 0) (get_or first 2 0) (get_or first 3 0)

@@ -34,7 +34,8 @@ pub fn zone_check(block: &[u8]) -> u8
         t = add_carry(t, word_sum(chunk));
     }
     // The check byte itself counts as 0.
-    let first = u32::from_le_bytes([0, head[1], head[2], head[3]]) as usize;
+    let word = bits::word32(head, 0);
+    let first = word - usize::from(head[0]);
     fold_bytes(add_carry(add_carry(t, 0), first))
 }
 

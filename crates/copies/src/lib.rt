@@ -12,7 +12,7 @@
 
 ghost use Rattle.std.specs.Prelude.{◌≡◌};
 ghost use Rattle.geometry.specs.Accepted.{AcceptedGeometry};
-ghost use Rattle.copies.specs.Copies.{Chooses, CopiesOver, copies_of, TellsAddresses};
+ghost use Rattle.copies.specs.Copies.{same_bytes, Chooses, CopiesOver, copies_of, TellsAddresses};
 ghost use Rattle.copies.specs.Laws.{CopyLaws};
 
 use geometry::{Geometry, Reason, Refusal};
@@ -54,8 +54,15 @@ pub fn choose<'a>(first: &'a [u8], second: &'a [u8]) -> Chosen<'a>
     Chosen {
         which,
         part,
-        equal: first == second,
+        equal: same(first, second),
     }
+}
+
+// Whether two slices are byte for byte equal.
+fn same(a: &[u8], b: &[u8]) -> bool
+    ensures { result ≡ same_bytes a.now b.now }
+{
+    a == b
 }
 
 // Writes an accepted map over another copy, whatever that holds. Refused: the source's 1 to 7, then 1 where the lengths differ; a

@@ -5,7 +5,7 @@
 ghost use Rattle.std.specs.Prelude.{◌≡◌, ◌+◌, ◌-◌, ◌*◌, ◌/◌, ◌%◌, ◌^◌, ◌<◌, ◌≤◌, length};
 ghost use Rattle.std.specs.Bool.{then_some};
 ghost use Rattle.geometry.specs.Record.{cluster_of, two_bytes, four_bytes, by_version, record_in, geometry_from, geometry_in};
-ghost use Rattle.geometry.specs.Ranges.{FieldRules, between, fields_fit, geometry_fits, all_zero, record_fits};
+ghost use Rattle.geometry.specs.Ranges.{FieldRules, between, fields_fit, geometry_fits, zero_bytes, record_fits};
 ghost use Rattle.geometry.specs.Accepted.{SmallNumbers, AcceptedGeometry};
 ghost use Rattle.geometry.specs.Places.{first_bit, end_bit, disc_bit, block_bit, zone_of, zone_from, disc_bits, id_from};
 ghost use Rattle.geometry.specs.Answers.{number, without_zone, ReadsRecord, TellsStart};
@@ -281,7 +281,7 @@ fn geometry_in(bytes: &[u8]) -> Option<Geometry>
     let g = geometry_from(r);
     let from = by_version(r.version, 32, 36);
     let end = by_version(r.version, 60, 40);
-    (geometry_fits(g) && all_zero(&bytes[from..end])).then_some(g)
+    (geometry_fits(g) && zero_bytes(bytes, from, end)).then_some(g)
 }
 
 // The numbers that the fields fix. A zone_spare above 8S leaves no bits.
@@ -319,11 +319,12 @@ pub fn geometry_fits(g: Geometry) -> bool
     g.bits % g.cluster == 0 && 480 + g.shortest <= g.bits && named && disc
 }
 
-// Whether all bytes are 0.
-fn all_zero(bytes: &[u8]) -> bool
-    ensures { result ≡ all_zero bytes.now }
+// Whether bytes `from` to `end - 1` of a record's 60 are 0: none of their bits is 1.
+fn zero_bytes(r: &[u8], from: usize, end: usize) -> bool
+    requires { (length r.now ≡ 60) × (from ≤ end) × (end ≤ 60) }
+    ensures { result ≡ zero_bytes from end r.now }
 {
-    bytes.iter().all(|byte| *byte == 0)
+    bits::zero_run(r, 8 * from, 8 * end) == 8 * (end - from)
 }
 
 // The laws of specs/Laws, as a contract: the function does nothing.

@@ -22,7 +22,7 @@ use Rattle.geometry.proofs.RecordAnswers.{accepted_says, refused_says}
 use Rattle.model.specs.Chain.{Entry}
 use Rattle.model.specs.Answer.{Answer, refused, answered, unless}
 use Rattle.model.specs.Check.{zones_read, differing, cross_sum, after_checks, blocks_read, blocks_of, length_fits, measured, map_read}
-use Rattle.map.specs.Checked.{check_answer, checked, byte_fault, check_bytes, check_numbers, check_told, Checks}
+use Rattle.map.specs.Checked.{zones_told, check_answer, checked, byte_fault, check_bytes, check_numbers, check_told, Checks}
 use Rattle.model.proofs.Numbered.{Numbered, map_numbered}
 
 -- a map that the check refuses was read so
@@ -97,6 +97,15 @@ module _ (m : List ℕ) where
 
     pub rest_answer : (f : Geometry → Answer (List (List Entry))) → check_answer g (f g) ≡ check_answer (geometry_of m) (measured m (f (geometry_of m)))
     rest_answer f = ap (λ (x : Geometry). check_answer x (f x)) parts.3 ∙ rw (parts.0, parts.1, parts.2)
+
+-- the zones judged: their refusal is the answer, and where they keep the rules it is the geometry
+pub zones_refused : (g : Geometry) (q : Answer (List (List Entry))) {r : Refusal} → zones_told q ≡ Err r → Err r ≡ check_answer g q
+zones_refused g (refused n z) {r} e = let x : r ≡ refusal n z = cc in ap Err x
+zones_refused g (answered ess) e = let x : ◌≡◌ {A = ℕ} 0 1 = cc in absurd (omega arith)
+
+pub zones_kept : (g : Geometry) (q : Answer (List (List Entry))) {t : Unit {0}} → zones_told q ≡ Ok t → Ok g ≡ check_answer g q
+zones_kept g (refused n z) e = let x : ◌≡◌ {A = ℕ} 0 1 = cc in absurd (omega arith)
+zones_kept g (answered ess) e = refl
 
 -- the blocks, by their check bytes
 module _ (g : Geometry) (m : List ℕ) where

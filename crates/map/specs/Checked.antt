@@ -29,6 +29,11 @@ byte_fault none right = cond right (Ok tt) (Err (refusal 4 0))
 abbrev pub check_bytes : List (List ℕ) → Result (Unit {0}) Refusal
 check_bytes bs = byte_fault (differing 0 bs) (eqb (cross_sum bs) 255)
 
+-- whether all zones could be read, or the refusal of the first that could not
+abbrev pub zones_told : Answer (List (List Entry)) → Result (Unit {0}) Refusal
+zones_told (refused n z) = Err (refusal n z)
+zones_told (answered ess) = Ok tt
+
 -- the paper's numbers: refusal (0: accepted) and zone told
 abbrev pub check_numbers : Result Geometry Refusal → ℕ × ℕ
 check_numbers (Ok g) = (0, 0)

@@ -10,7 +10,7 @@ ghost use Rattle.geometry.specs.Record.{geometry_of};
 ghost use Rattle.model.specs.Answer.{answered};
 ghost use Rattle.model.specs.Rules.{zone_block};
 ghost use Rattle.model.specs.Check.{zones_read, differing, cross_sum, measured, blocks_of};
-ghost use Rattle.map.specs.Checked.{first_differing, check_answer, mend_checked, check_bytes, Checks};
+ghost use Rattle.map.specs.Checked.{first_differing, check_answer, mend_checked, check_bytes, zones_told, Checks};
 
 use geometry::{Geometry, Reason, Refusal};
 
@@ -28,14 +28,17 @@ pub fn check(map: &[u8]) -> Result<Geometry, Refusal>
 {
     let g = sized(map)?;
     check_bytes(map, g)?;
-    judge_zones(map, g)
+    judge_zones(map, g)?;
+    Ok(g)
 }
 
 // The same with 3 and 4 ignored, as the mender asks it (document 02, R-9).
 pub fn check_zones(map: &[u8]) -> Result<Geometry, Refusal>
     ensures { result ≡ mend_checked map.now }
 {
-    judge_zones(map, sized(map)?)
+    let geometry = sized(map)?;
+    judge_zones(map, geometry)?;
+    Ok(geometry)
 }
 
 // The record, then the length.
@@ -108,12 +111,12 @@ fn cross_check(block: &[u8]) -> u8
 }
 
 // Zone by zone: fragments, chain, owners. The lowest zone that breaks a rule is told.
-fn judge_zones(map: &[u8], g: Geometry) -> Result<Geometry, Refusal>
+fn judge_zones(map: &[u8], g: Geometry) -> Result<(), Refusal>
     requires { AcceptedGeometry g × (length map.now ≡ g.zones * g.sector) }
-    ensures { result ≡ check_answer g (zones_read g 0 (blocks_of g map.now)) }
+    ensures { result ≡ zones_told (zones_read g 0 (blocks_of g map.now)) }
 {
     for z in 0..g.zones {
         zone::judge(block(map, g, z), z, g)?;
     }
-    Ok(g)
+    Ok(())
 }

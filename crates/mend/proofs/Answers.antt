@@ -40,13 +40,12 @@ module _ (m : List ℕ) {c : Result Geometry Refusal} (e : c ≡ mend_checked m)
   refused_by {r} k = read_refused (geometry_of m) (mend_read m) r (mend_numbered m) (sym e ∙ k)
 
   -- mending
-  pub mend_refused : {r : Refusal} → c ≡ Err r → {q : Result (Unit {0}) Refusal} → IsErr q × IsErrAnd q (λ y. y ≡ r) → Mending m q m
-  mend_refused {r} k {q} h =
+  pub mend_refused : {r : Refusal} → c ≡ Err r → Mending m (Err r) m
+  mend_refused {r} k =
       let f = refused_by k in
-      let e : q ≡ Err r = handed_on q h in
       record {
-        answer = e ∙ ap Err (sym (same_refusal r)) ∙ sym (ap mend_answer f);
-        numbers = ap mend_numbers e ∙ sym (ap mend_told f);
+        answer = ap Err (sym (same_refusal r)) ∙ sym (ap mend_answer f);
+        numbers = sym (ap mend_told f);
         bytes = ap (mended_by m) (sym f);
       }
 

@@ -23,9 +23,14 @@ use writer::{MOST_LINES, Piece};
 pub fn mend(map: &mut [u8]) -> Result<(), Refusal>
     ensures { Mending map.old result map.new }
 {
-    let geometry = map::check_zones(map)?;
-    mend_zones(map, geometry);
-    Ok(())
+    // No `?`: must-fail/refused_told_mended turns the refusal's arm.
+    match map::check_zones(map) {
+        Err(refusal) => Err(refusal),
+        Ok(g) => {
+            mend_zones(map, g);
+            Ok(())
+        }
+    }
 }
 
 // Lists the positions of the bytes that `mend` would change, ascending. Refused: as `mend`, then 17; a refusal changes no entry.

@@ -122,13 +122,12 @@ fn bit_at(g: Geometry, address: usize) -> DiscBit
 }
 
 impl Stretch<'_> {
-    // Whether the stretch lies on a disc of so many bytes, an empty one too.
+    // Whether the stretch lies on a disc of so many bytes, an empty one too. The sum is not made, since it could wrap.
     fn lies_on(&self, size: usize) -> bool
         ensures { result ≡ leb (self.now.first + length self.now.image.now) size }
     {
-        self.first
-            .checked_add(self.image.len())
-            .is_some_and(|end| end <= size)
+        let n = self.image.len();
+        n <= size && self.first <= size - n
     }
 
     // Fills a span's part of the stretch at once; answers how many bytes that is.

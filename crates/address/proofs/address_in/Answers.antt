@@ -29,11 +29,11 @@ returns-then-count_held-eq0 c =
     let a = c.args in
     no_object a.n a.position (object (goal.at.returns-then-count_held-eq0 c).After-count_held) c.if-g-eq-PLUS.false c.if-n-ge-NUMBERS.false c.if-count_held-eq0.true c.into-then-count_held-eq0.ensures
 
-pub returns-in_err-byte : goal.returns-in_err-byte
-returns-in_err-byte c =
+pub returns-then-position-ge-LONGEST : goal.returns-then-position-ge-LONGEST
+returns-then-position-ge-LONGEST c =
     let a = c.args in
-    past_object a.n a.position (object (goal.at.returns-in_err-byte c).After-count_held) c.if-g-eq-PLUS.false c.if-n-ge-NUMBERS.false c.if-count_held-eq0.false
-    c.start_offset.ensures c.checked_add.result c.checked_add.ensures (sym c.ok_or.ensures.value ∙ c.in_err-byte.was) c.from_residual-in_err-byte.ensures
+    past_object a.n a.position (object (goal.at.returns-then-position-ge-LONGEST c).After-count_held) c.if-g-eq-PLUS.false c.if-n-ge-NUMBERS.false c.if-count_held-eq0.false
+    c.if-position-ge-LONGEST.true c.into-then-position-ge-LONGEST.ensures
 
 pub locate-requires : goal.locate-requires
 locate-requires c = (c.requires, start_inside (object (goal.at.locate-requires c).After-count_held))
@@ -42,4 +42,4 @@ pub returns : goal.returns
 returns c =
     let a = c.args in
     object_sought a.n a.position (object (goal.at.returns c).After-count_held) c.if-g-eq-PLUS.false c.if-n-ge-NUMBERS.false c.if-count_held-eq0.false
-    c.start_offset.ensures c.checked_add.result c.checked_add.ensures (sym c.ok_or.ensures.value ∙ c.in_ok-byte.was) c.locate.ensures
+    c.start_offset.ensures.0 c.locate.ensures

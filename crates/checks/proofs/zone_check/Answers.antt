@@ -1,14 +1,14 @@
 -- A chunk more, or none left.
-use Prim.Native.Nat.{◌-◌}
+use Prim.Native.Nat.{ℕ, ◌-◌, ◌<◌}
 use mathlib.Core.Path.{◌≡◌}
 use native.Mathlib.Omega.{arith}
 use borrow.Author.Rules.{rules}
-use lib.ListN.{drop}
+use lib.ListN.{drop, get_or}
 use Rattle.std.specs.Slice.Iter.{chunks_rest}
 use Rattle.checks.specs.Words.{words_of}
 use Rattle.checks.specs.Sums.{sum_of}
 use Rattle.checks.proofs.Carries.{none_carried, carry_more}
-use Rattle.checks.proofs.Totals.{sum_short, chunk_turn, check_end, check_short}
+use Rattle.checks.proofs.Totals.{sum_short, chunk_turn, first_word, check_end, check_short}
 use Rattle.checks.proofs.zone_check.Goals as goal
 
 pub returns-in_default : goal.returns-in_default
@@ -30,11 +30,16 @@ loop-chunk-preserved c =
       carried = rw c.add_carry-t.ensures (carry_more _ _ c.word_sum.result _ c.loop-chunk.invariant.carried (omega arith));
     }
 
+pub overflow_sub-first : goal.overflow_sub-first
+overflow_sub-first c = omega (arith, first_word c.args.block.now c.in-Some.head.now (λ j. (c.type_inv.block j).fits) (search rules) (search rules))
+
 pub returns : goal.returns
 returns c =
     let s = c.args.block.now in
+    let head = c.in-Some.head.now in
+    let byte : (j : ℕ) → get_or s j 0 < 256 = λ j. (c.type_inv.block j).fits in
     let none = sum_short (chunks_rest c.loop-chunk.chunk-iterator) (omega (arith, c.in-None.ensures.steps)) in
     let all : sum_of (words_of (drop 4 s)) - sum_of (words_of (chunks_rest c.loop-chunk.chunk-iterator)) ≡ sum_of (words_of (drop 4 s)) = omega arith in
     rw (c.fold_bytes.ensures, c.add_carry-2.ensures, c.add_carry.ensures)
-    (check_end s c.in-Some.head.now c.loop-chunk.t c.from_le_bytes-first.result (λ j. (c.type_inv.block j).fits) (search rules) (omega arith)
-    (rw all at c.loop-chunk.invariant.carried) (search rules) c.from_le_bytes-first.ensures)
+    (check_end s head c.loop-chunk.t (c.word32-word.result - c.from.result) byte (search rules) (omega arith)
+    (rw all at c.loop-chunk.invariant.carried) (search rules) (omega (arith, first_word s head byte (search rules) (search rules))))

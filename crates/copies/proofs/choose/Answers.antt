@@ -8,8 +8,8 @@ pub returns : goal.returns
 returns c =
     let a = c.args in
     elim c.match-check.branch [
-      | in-Ok w ↦ first_chosen a.first a.second c.eq.ensures c.check.ensures.answer w.in-Ok.is w.which-is
-      | in-Err+in-Ok-check w ↦ second_chosen a.first a.second c.eq.ensures c.check.ensures.answer w.in-Err.is w.check-in-Err.ensures.answer w.in-Ok-check.is w.which-is
+      | in-Ok w ↦ first_chosen a.first a.second c.same.ensures c.check.ensures.answer w.in-Ok.is w.which-is
+      | in-Err+in-Ok-check w ↦ second_chosen a.first a.second c.same.ensures c.check.ensures.answer w.in-Err.is w.check-in-Err.ensures.answer w.in-Ok-check.is w.which-is
       | in-Err+in-Err-check w ↦
-          none_chosen a.first a.second c.eq.ensures c.check.ensures.answer w.in-Err.is w.check-in-Err.ensures.answer w.in-Err-check.is refl w.which-is
+          none_chosen a.first a.second c.same.ensures c.check.ensures.answer w.in-Err.is w.check-in-Err.ensures.answer w.in-Err-check.is refl w.which-is
     ]
