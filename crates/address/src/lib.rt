@@ -62,7 +62,8 @@ fn start_offset(g: Geometry, n: u32) -> usize
     (n as usize % 256).saturating_sub(1) * g.sector
 }
 
-// Byte i of an object, whose pieces are those from its start zone on and then those of the zones before it.
+// Byte i of an object, whose pieces are those from its start zone on and then those of the zones before it. Its frame is its own, so that its two
+// iterators, which hold a geometry each, do not lie under the check's.
 #[inline(never)]
 fn locate(map: &[u8], g: Geometry, id: u32, start: usize, i: usize) -> Result<Location, Refusal>
     requires { AcceptedMap map.now g × (start ≤ g.zones) }

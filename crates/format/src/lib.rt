@@ -226,7 +226,8 @@ fn write_record(map: &mut [u8], r: DiscRecord)
     map[9] = r.logunit as u8;
     map[13] = r.zones as u8;
     map[14..16].copy_from_slice(&(r.spare as u16).to_le_bytes());
-    map[20..24].copy_from_slice(&(r.size as u32).to_le_bytes());
+    let [low, second, third, high] = (r.size as u32).to_le_bytes();
+    map[20..24].copy_from_slice(&[low, second, third, high]);
 }
 
 // Draws the zones one by one, on a map that has the record and else only 0.
