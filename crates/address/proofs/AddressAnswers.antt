@@ -89,6 +89,7 @@ module _ {m : List ℕ} {g : Geometry} (a : AcceptedMap m g) (n position : ℕ) 
         let k = no_id g 2 (n / 256) _ e in
         handed_reaches m n position 8 0 (location_read_law ∙ rw (ne_eqb g.version 1 v, lt-ltb n 16777216 low) k.0) k.1 h
 
+-- a number that is a file's
 module _ {m : List ℕ} {g : Geometry} (n position : ℕ) {s count : ℕ} (o : Object m g 2 (n / 256) s count) (v : g.version ≡ 1 → ⊥) (low : n < 16777216) where
   abbrev byte : List Pair → Answer Location
   byte qs = within (locate g.unit qs (start_offset g n + position))

@@ -226,6 +226,7 @@ fn write_record(map: &mut [u8], r: DiscRecord)
     map[9] = r.logunit as u8;
     map[13] = r.zones as u8;
     map[14..16].copy_from_slice(&(r.spare as u16).to_le_bytes());
+    // Named, so that must-fail/size_without_its_high_byte turns one of them.
     let [low, second, third, high] = (r.size as u32).to_le_bytes();
     map[20..24].copy_from_slice(&[low, second, third, high]);
 }
